@@ -1,0 +1,2 @@
+pub mod Choose
+pub mod Laid
