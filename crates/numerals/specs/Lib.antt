@@ -1,0 +1,4 @@
+pub mod Digits
+pub mod Grouping
+pub mod Integers
+pub mod Params

@@ -1,0 +1,201 @@
+// Whole numbers as text: digits in a base, commas, two's complement, and the numbers that a format writes.
+// Ported in part from format_string.rs of datafusion-spark 55.2.0 (Apache-2.0; see NOTICE): take_numeric_param,
+// insert_thousands_separator, and the digit writing of format_unsigned and format_signed.
+ghost use mathlib.Core.Path.{_≡_};
+ghost use Prim.Native.Nat.{_+_, _-_, _/_, _%_, _^_, _≤_, _<_};
+ghost use lib.IntN.{natAbs};
+ghost use lib.ListN.{length, drop};
+ghost use Rattle.writing.specs.Laid.{laid};
+ghost use Rattle.numerals.specs.Digits.{digitsIn, places, letterOf, lettersOf, decimal};
+ghost use Rattle.numerals.specs.Grouping.{grouped};
+ghost use Rattle.numerals.specs.Integers.{intOf, isNegative};
+ghost use Rattle.numerals.specs.Params.{beginsParam, leadingDigits, numberTaken, paramAt};
+
+// The letter of a digit below 16: small, or capital where upper is set.
+pub fn digit_letter(digit: u64, upper: bool) -> u8
+    requires { ⌜ digit < 16 ⌝ }
+    ensures { λ r. ⌜ r ≡ letterOf upper digit ⌝ }
+{
+    if digit < 10 {
+        return (48 + digit) as u8;
+    }
+    if upper {
+        return (55 + digit) as u8;
+    }
+    (87 + digit) as u8
+}
+
+// How many decimal digits x has: one for 0.
+pub fn decimal_len(x: u64) -> usize
+    ensures { λ r. ⌜ r ≡ places 10 x ⌝ }
+{
+    let mut v = x;
+    let mut n = 1;
+    while 10 <= v {
+        v = v / 10;
+        n = n + 1;
+    }
+    n
+}
+
+// How many digits x has in base 2 ^ shift, from its highest set bit: one for 0. Octal is shift 3, hexadecimal shift 4.
+pub fn power_len(x: u64, shift: u32) -> u32
+    requires { ⌜ (1 ≤ shift) × (shift ≤ 63) ⌝ }
+    ensures { λ r. ⌜ r ≡ places (2 ^ shift) x ⌝ }
+{
+    if x == 0 {
+        return 1;
+    }
+    let bits = 64 - u64::leading_zeros(x);
+    (bits + shift - 1) / shift
+}
+
+// Writes the n lowest digits of x in the base, leading zeros included. Answers n.
+pub fn write_digits(out: &mut [u8], x: u64, base: u64, n: usize, upper: bool) -> usize
+    requires { ⌜ (1 ≤ base) × (base ≤ 16) × (n ≤ length (now out)) ⌝ }
+    ensures { λ r. ⌜ (r ≡ n) × (now (out .exit) ≡ laid (now (out .entry)) (lettersOf upper (digitsIn base n x))) ⌝ }
+{
+    let mut v = x;
+    let mut i = n;
+    while 0 < i {
+        i = i - 1;
+        out[i] = digit_letter(v % base, upper);
+        v = v / base;
+    }
+    n
+}
+
+// The length of x in decimal with commas, from its number of digits.
+pub fn grouped_len(x: u64) -> usize
+    ensures { λ r. ⌜ r ≡ length (grouped (decimal x)) ⌝ }
+{
+    let n = decimal_len(x);
+    n + (n - 1) / 3
+}
+
+// Writes x in decimal with commas. Answers the length.
+pub fn write_grouped(out: &mut [u8], x: u64) -> usize
+    requires { ⌜ length (grouped (decimal x)) ≤ length (now out) ⌝ }
+    ensures { λ r. ⌜ (r ≡ length (grouped (decimal x))) × (now (out .exit) ≡ laid (now (out .entry)) (grouped (decimal x))) ⌝ }
+{
+    let n = grouped_len(x);
+    let mut v = x;
+    let mut run: u64 = 0;
+    let mut i = n;
+    while 0 < i {
+        i = i - 1;
+        if run == 3 {
+            out[i] = 44;
+            run = 0;
+        } else {
+            out[i] = digit_letter(v % 10, false);
+            v = v / 10;
+            run = run + 1;
+        }
+    }
+    n
+}
+
+// Whether the 64-bit integer with the two's complement bits x is negative.
+pub fn is_negative(x: u64) -> bool
+    ensures { λ r. ⌜ r ≡ isNegative (intOf 64 x) ⌝ }
+{
+    0x8000_0000_0000_0000 <= x
+}
+
+// The absolute value of the 64-bit integer with the two's complement bits x. 01: "the magnitude of the least 64-bit integer is kept, though its negation wraps".
+pub fn magnitude(x: u64) -> u64
+    ensures { λ r. ⌜ r ≡ natAbs (intOf 64 x) ⌝ }
+{
+    if x < 0x8000_0000_0000_0000 {
+        return x;
+    }
+    std::num::wrapping_sub_u64(0, x)
+}
+
+// The low bits of x: of a sign-extended value, its two's complement bits at that width.
+pub fn low_bits(x: u64, width: u32) -> u64
+    ensures { λ r. ⌜ r ≡ x % 2 ^ width ⌝ }
+{
+    if 64 <= width {
+        return x;
+    }
+    x % (1u64 << width)
+}
+
+// A width, precision or index: digits, or none given. The original's names.
+pub enum NumericParam {
+    Literal(u32),
+    FromArgument,
+}
+
+// The answer of take_numeric_param: the parameter and the place behind it, or a number above 2,147,483,647.
+pub enum Taken {
+    Param { param: NumericParam, next: usize },
+    TooLarge,
+}
+
+// Whether a byte begins a parameter: a digit, and 0 only where zero is set.
+fn begins_param(b: u8, zero: bool) -> bool
+    ensures { λ r. ⌜ r ≡ beginsParam zero b ⌝ }
+{
+    if b < 48 {
+        return false;
+    }
+    if 57 < b {
+        return false;
+    }
+    if b == 48 {
+        return zero;
+    }
+    true
+}
+
+// The number of the digits of s from the place at on.
+fn take_number(s: &[u8], at: usize) -> Taken
+    requires { ⌜ at ≤ length (now s) ⌝ }
+    ensures { λ r. ⌜ r ≡ numberTaken at (leadingDigits (drop at (now (s .entry)))) ⌝ }
+{
+    let mut i = at;
+    let mut value: u32 = 0;
+    while i < s.len() {
+        let b = s[i];
+        if b < 48 {
+            return Taken::Param {
+                param: NumericParam::Literal(value),
+                next: i,
+            };
+        }
+        if 57 < b {
+            return Taken::Param {
+                param: NumericParam::Literal(value),
+                next: i,
+            };
+        }
+        let digit = (b - 48) as u32;
+        if (2147483647 - digit) / 10 < value {
+            return Taken::TooLarge;
+        }
+        value = value * 10 + digit;
+        i = i + 1;
+    }
+    Taken::Param {
+        param: NumericParam::Literal(value),
+        next: i,
+    }
+}
+
+// The parameter that stands in s from the place at on; a first digit 0 counts only where zero is set. Nothing is read past its digits.
+pub fn take_numeric_param(s: &[u8], at: usize, zero: bool) -> Taken
+    ensures { λ r. ⌜ r ≡ paramAt zero (now (s .entry)) at ⌝ }
+{
+    if at < s.len() {
+        if begins_param(s[at], zero) {
+            return take_number(s, at);
+        }
+    }
+    Taken::Param {
+        param: NumericParam::FromArgument,
+        next: at,
+    }
+}
