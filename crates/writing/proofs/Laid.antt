@@ -25,6 +25,10 @@ laid-more d t n b e h =
     rw (e, drop-cons d n 0 h, set-at t (getD d n 0) (drop (suc n) d) b n e)
     (simp (append-assoc, length-append, e, add-one))
 
+-- the first byte
+pub laid-first : (d : List ℕ) (b : ℕ) → 0 < length d → set d 0 b ≡ laid d (b ∷ [])
+laid-first d b h = ap (λ (l : List ℕ). set l 0 b) (sym (laid-none d)) ∙ laid-more d [] 0 b refl h
+
 -- a turn of a copy, and of a fill
 pub copy-step : (d s : List ℕ) (i : ℕ) → i < length s → length s ≤ length d → set (laid d (take i s)) i (getD s i 0) ≡ laid d (take (i + 1) s)
 copy-step d s i h k =

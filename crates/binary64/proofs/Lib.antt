@@ -1,0 +1,5 @@
+pub mod Powers
+pub mod Kept
+pub mod Value
+pub mod Scaled
+pub mod Texts

@@ -1,0 +1,46 @@
+-- `binary64::category` meets its contract. Assumes nothing.
+use borrow.Author.Needs.{needs}
+use borrow.Author.Tests.{eq-eqb, ne-eqb}
+use Rattle.binary64.specs.Fields.{categoryOf}
+use Rattle.binary64.proofs.category.Statement.{statement}
+use Rattle.binary64.proofs.category.Tie as tie
+use Rattle.binary64.proofs.category.Reads as reads
+use Rattle.binary64.proofs.category.Lts as lts
+use Rattle.binary64.proofs.to_parts.Reads as to-parts-reads
+
+to-parts-requires : tie.Need-to-parts-requires
+to-parts-requires c κs = search needs
+
+returns : tie.Need-returns
+unfolding categoryOf
+returns c =
+    let e = c .before .before .to-parts .ensures in
+    simp (← e .1, ← e .2, eq-eqb _ _ (c .before .if1 .taken), eq-eqb _ _ (c .if2 .taken))
+
+returns-2 : tie.Need-returns-2
+unfolding categoryOf
+returns-2 c =
+    let e = c .before .before .to-parts .ensures in
+    simp (← e .1, ← e .2, eq-eqb _ _ (c .before .if1 .taken), ne-eqb _ _ (c .if2 .left))
+
+returns-3 : tie.Need-returns-3
+unfolding categoryOf
+returns-3 c =
+    let e = c .before .before .before .to-parts .ensures in
+    simp (← e .1, ← e .2, ne-eqb _ _ (c .before .before .if1 .left), eq-eqb _ _ (c .before .if3 .taken), eq-eqb _ _ (c .if4 .taken))
+
+returns-4 : tie.Need-returns-4
+unfolding categoryOf
+returns-4 c =
+    let e = c .before .before .before .to-parts .ensures in
+    simp (← e .1, ← e .2, ne-eqb _ _ (c .before .before .if1 .left), eq-eqb _ _ (c .before .if3 .taken), ne-eqb _ _ (c .if4 .left))
+
+returns-5 : tie.Need-returns-5
+unfolding categoryOf
+returns-5 c =
+    let e = c .before .before .to-parts .ensures in
+    simp (← e .1, ne-eqb _ _ (c .before .if1 .left), ne-eqb _ _ (c .if3 .left))
+
+pub category-spec : {M : Type 1} → statement M
+category-spec =
+    tie.close (tie.spec to-parts-requires returns returns-2 returns-3 returns-4 returns-5)

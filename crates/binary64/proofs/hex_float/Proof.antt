@@ -1,0 +1,51 @@
+use native.Mathlib.Omega.{arith}
+use borrow.Author.Tests.{eq-eqb, ne-eqb}
+use Rattle.binary64.proofs.Value.{field-bounds}
+-- `binary64::hex_float` meets its contract. Assumes nothing.
+use Rattle.binary64.specs.HexFloat.{hexFloatOf}
+use borrow.Author.Needs.{needs}
+use Rattle.binary64.proofs.hex_float.Statement.{statement}
+use Rattle.binary64.proofs.hex_float.Tie as tie
+use Rattle.binary64.proofs.hex_float.Reads as reads
+use Rattle.binary64.proofs.hex_float.Lts as lts
+use Rattle.binary64.proofs.normal.Reads as normal-reads
+use Rattle.binary64.proofs.subnormal.Reads as subnormal-reads
+use Rattle.binary64.proofs.to_parts.Reads as to-parts-reads
+
+to-parts-requires : tie.Need-to-parts-requires
+to-parts-requires c κs = search needs
+
+normal-requires : tie.Need-normal-requires
+normal-requires c κs =
+    let e = c .before .to-parts .ensures in
+    let b = field-bounds (c .before .before .args .bits) in
+    (omega arith, omega arith)
+
+returns : tie.Need-returns
+unfolding hexFloatOf
+returns c =
+    let e = c .before .before .to-parts .ensures in
+    simp (← e .1, ← e .2, ne-eqb _ _ (c .before .if1 .taken)) (c .normal .ensures)
+
+subnormal-requires : tie.Need-subnormal-requires
+subnormal-requires c κs =
+    let e = c .before .before .to-parts .ensures in
+    let b = field-bounds (c .before .before .before .args .bits) in
+    (omega arith, omega arith)
+
+returns-2 : tie.Need-returns-2
+unfolding hexFloatOf
+returns-2 c =
+    let e = c .before .before .before .to-parts .ensures in
+    simp (← e .1, ← e .2, eq-eqb _ _ (c .before .before .if1 .left), ne-eqb _ _ (c .before .if2 .taken)) (c .subnormal .ensures)
+
+returns-3 : tie.Need-returns-3
+unfolding hexFloatOf
+returns-3 c =
+    let e = c .before .before .to-parts .ensures in
+    simp (← e .1, ← e .2, eq-eqb _ _ (c .before .if1 .left), eq-eqb _ _ (c .if2 .left))
+
+pub hex-float-spec : {M : Type 1} → statement M
+hex-float-spec =
+    tie.close
+    (tie.spec to-parts-requires normal-requires returns subnormal-requires returns-2 returns-3)

@@ -1,0 +1,14 @@
+-- `binary64::leading_letter` meets its contract. Assumes nothing.
+use Rattle.binary64.proofs.leading_letter.Statement.{statement}
+use Rattle.binary64.proofs.leading_letter.Tie as tie
+use Rattle.binary64.proofs.leading_letter.Reads as reads
+use Rattle.binary64.proofs.leading_letter.Lts as lts
+
+returns : tie.Need-returns
+returns c = ?
+
+returns-2 : tie.Need-returns-2
+returns-2 c = ?
+
+pub leading-letter-spec : {M : Type 1} → statement M
+leading-letter-spec = tie.close (tie.spec returns returns-2)

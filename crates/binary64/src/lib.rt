@@ -1,0 +1,305 @@
+// binary64 values as hexadecimal text: fields, category, exact scaling, rounding, and the digits of %a without mark, prefix and padding.
+// Ported in part from format_string.rs of datafusion-spark 55.2.0 (Apache-2.0; see NOTICE): FloatBits::to_parts,
+// trim_trailing_0s_hex, and the digits of format_hex_float.
+use numerals::NumericParam;
+
+ghost use mathlib.Core.Path.{_≡_};
+ghost use mathlib.Core.Bool.{Bool};
+ghost use Prim.Native.Nat.{_+_, _-_, _*_, _/_, _^_, _≤_, _<_};
+ghost use lib.ListN.{length};
+ghost use Rattle.writing.specs.Laid.{laid};
+ghost use Rattle.binary64.specs.Fields.{negative, exponentField, fractionField, categoryOf, scaledBits};
+ghost use Rattle.binary64.specs.Rounding.{nearestTo, keptDigits};
+ghost use Rattle.binary64.specs.HexFloat.{shortest, rounded, normalOf, subnormalForm, subnormalOf, hexFloatOf, leadingDigit, exponentLetter, exponentText, hexFloatText};
+
+// The fields of a bit pattern: sign, biased exponent, fraction.
+pub struct FloatParts {
+    pub negative: bool,
+    pub exponent: u32,
+    pub mantissa: u64,
+}
+
+pub fn to_parts(bits: u64) -> FloatParts
+    ensures { λ r. ⌜ (r .negative ≡ negative bits) × (r .exponent ≡ exponentField bits) × (r .mantissa ≡ fractionField bits) ⌝ }
+{
+    FloatParts {
+        negative: 0x8000_0000_0000_0000 <= bits,
+        exponent: (bits % 0x8000_0000_0000_0000 / 0x10_0000_0000_0000) as u32,
+        mantissa: bits % 0x10_0000_0000_0000,
+    }
+}
+
+// The kinds of value, by the names of the original's standard library.
+pub enum FpCategory {
+    Nan,
+    Infinite,
+    Zero,
+    Subnormal,
+    Normal,
+}
+
+pub fn category(bits: u64) -> FpCategory
+    ensures { λ r. ⌜ r ≡ categoryOf bits ⌝ }
+{
+    let parts = to_parts(bits);
+    let exponent = parts.exponent;
+    let mantissa = parts.mantissa;
+    if exponent == 2047 {
+        if mantissa == 0 {
+            return FpCategory::Infinite;
+        }
+        return FpCategory::Nan;
+    }
+    if exponent == 0 {
+        if mantissa == 0 {
+            return FpCategory::Zero;
+        }
+        return FpCategory::Subnormal;
+    }
+    FpCategory::Normal
+}
+
+// A positive subnormal value times 2 to the 54th, as an f64 product. It is exact: see proofs/Scaled.antt.
+pub fn scale_up(bits: u64) -> u64
+    requires { ⌜ (1 ≤ bits) × (bits < 2 ^ 52) ⌝ }
+    ensures { λ r. ⌜ r ≡ scaledBits bits ⌝ }
+{
+    let value = f64::from_bits(bits);
+    let scaled = value * 18014398509481984.0;
+    f64::to_bits(scaled)
+}
+
+// The whole number nearest to x / unit, at a tie the even one.
+pub fn nearest_to(x: u64, unit: u64) -> u64
+    requires { ⌜ (x < 2 ^ 62) × (0 < unit) ⌝ }
+    ensures { λ r. ⌜ r ≡ nearestTo x unit ⌝ }
+{
+    let quotient = x / unit;
+    let rest = x % unit;
+    if rest * 2 < unit {
+        return quotient;
+    }
+    if unit < rest * 2 {
+        return quotient + 1;
+    }
+    quotient + quotient % 2
+}
+
+// The text of a finite value in parts: the digit before the point (1 where leading is set, else 0), the digits behind it as one number
+// and their count, zeros behind these, and the exponent, which is exponent less bias.
+pub struct HexFloat {
+    pub leading: bool,
+    pub fraction: u64,
+    pub digits: u32,
+    pub zeros: u32,
+    pub exponent: u32,
+    pub bias: u32,
+}
+
+// How many of the 13 digits of a fraction are left without its trailing zeros: at least one.
+pub fn kept_digits(mantissa: u64) -> u32
+    ensures { λ r. ⌜ r ≡ keptDigits 13 mantissa ⌝ }
+{
+    let mut fraction = mantissa;
+    let mut digits: u32 = 13;
+    while 1 < digits {
+        if fraction % 16 != 0 {
+            return digits;
+        }
+        fraction = fraction / 16;
+        digits = digits - 1;
+    }
+    digits
+}
+
+// A fraction of 13 digits without its trailing zeros.
+fn trimmed(mantissa: u64, exponent: u32, bias: u32) -> HexFloat
+    ensures { λ r. ⌜ r ≡ shortest mantissa exponent bias ⌝ }
+{
+    let digits = kept_digits(mantissa);
+    HexFloat {
+        leading: true,
+        fraction: mantissa >> (52 - 4 * digits),
+        digits: digits,
+        zeros: 0,
+        exponent: exponent,
+        bias: bias,
+    }
+}
+
+// A fraction of 13 digits rounded to the precision, which is at least 1; a carry raises the exponent.
+fn with_precision(precision: u32, mantissa: u64, exponent: u32, bias: u32) -> HexFloat
+    requires { ⌜ (1 ≤ precision) × (mantissa < 2 ^ 52) × (exponent < 2048) ⌝ }
+    ensures { λ r. ⌜ r ≡ rounded precision mantissa exponent bias ⌝ }
+{
+    if 13 <= precision {
+        return HexFloat {
+            leading: true,
+            fraction: mantissa,
+            digits: 13,
+            zeros: precision - 13,
+            exponent: exponent,
+            bias: bias,
+        };
+    }
+    let fraction = nearest_to(mantissa, 1u64 << (52 - 4 * precision));
+    if fraction < (1u64 << (4 * precision)) {
+        return HexFloat {
+            leading: true,
+            fraction: fraction,
+            digits: precision,
+            zeros: 0,
+            exponent: exponent,
+            bias: bias,
+        };
+    }
+    HexFloat {
+        leading: true,
+        fraction: 0,
+        digits: precision,
+        zeros: 0,
+        exponent: exponent + 1,
+        bias: bias,
+    }
+}
+
+// A normal value with this fraction and biased exponent.
+fn normal(precision: NumericParam, mantissa: u64, exponent: u32, bias: u32) -> HexFloat
+    requires { ⌜ (mantissa < 2 ^ 52) × (exponent < 2048) ⌝ }
+    ensures { λ r. ⌜ r ≡ normalOf precision mantissa exponent bias ⌝ }
+{
+    match precision {
+        NumericParam::FromArgument => trimmed(mantissa, exponent, bias),
+        NumericParam::Literal(p) => {
+            if p == 0 {
+                return with_precision(1, mantissa, exponent, bias);
+            }
+            with_precision(p, mantissa, exponent, bias)
+        }
+    }
+}
+
+// A subnormal value as it is: no leading 1, 13 digits, exponent -1022.
+fn unscaled(mantissa: u64) -> HexFloat
+    ensures { λ r. ⌜ r ≡ subnormalForm mantissa ⌝ }
+{
+    HexFloat {
+        leading: false,
+        fraction: mantissa,
+        digits: 13,
+        zeros: 0,
+        exponent: 0,
+        bias: 1022,
+    }
+}
+
+// A subnormal value: scaled up first where fewer than 13 digits are asked for.
+fn subnormal(precision: NumericParam, mantissa: u64) -> HexFloat
+    requires { ⌜ (1 ≤ mantissa) × (mantissa < 2 ^ 52) ⌝ }
+    ensures { λ r. ⌜ r ≡ subnormalOf precision mantissa ⌝ }
+{
+    match precision {
+        NumericParam::FromArgument => unscaled(mantissa),
+        NumericParam::Literal(p) => {
+            if p < 13 {
+                let parts = to_parts(scale_up(mantissa));
+                let exponent = parts.exponent;
+                let fraction = parts.mantissa;
+                return normal(precision, fraction, exponent, 1077);
+            }
+            unscaled(mantissa)
+        }
+    }
+}
+
+// The text of a finite value at a precision, in parts.
+pub fn hex_float(bits: u64, precision: NumericParam) -> HexFloat
+    ensures { λ r. ⌜ r ≡ hexFloatOf bits precision ⌝ }
+{
+    let parts = to_parts(bits);
+    let exponent = parts.exponent;
+    let mantissa = parts.mantissa;
+    if exponent != 0 {
+        return normal(precision, mantissa, exponent, 1023);
+    }
+    if mantissa != 0 {
+        return subnormal(precision, mantissa);
+    }
+    HexFloat {
+        leading: false,
+        fraction: 0,
+        digits: 1,
+        zeros: 0,
+        exponent: 0,
+        bias: 0,
+    }
+}
+
+// The letter before the exponent.
+fn exponent_letter(upper: bool) -> u8
+    ensures { λ r. ⌜ r ≡ exponentLetter upper ⌝ }
+{
+    if upper {
+        return 80;
+    }
+    112
+}
+
+// The length of the exponent's text, in small letters and capitals alike.
+pub fn exponent_len(exponent: u32, bias: u32) -> usize
+    ensures { λ r. ⌜ ((u : Bool) → r ≡ length (exponentText u exponent bias)) ⌝ }
+{
+    if exponent < bias {
+        return 2 + numerals::decimal_len((bias - exponent) as u64);
+    }
+    1 + numerals::decimal_len((exponent - bias) as u64)
+}
+
+// Writes p or P and the exponent in decimal. Answers the length.
+pub fn write_exponent(out: &mut [u8], exponent: u32, bias: u32, upper: bool) -> usize
+    requires { ⌜ length (exponentText upper exponent bias) ≤ length (now out) ⌝ }
+    ensures { λ r. ⌜ (r ≡ length (exponentText upper exponent bias)) × (now (out .exit) ≡ laid (now (out .entry)) (exponentText upper exponent bias)) ⌝ }
+{
+    out[0] = exponent_letter(upper);
+    if exponent < bias {
+        out[1] = 45;
+        let below = (bias - exponent) as u64;
+        let n = numerals::decimal_len(below);
+        return 2 + numerals::write_digits(&mut out[2..], below, 10, n, false);
+    }
+    let above = (exponent - bias) as u64;
+    let n = numerals::decimal_len(above);
+    1 + numerals::write_digits(&mut out[1..], above, 10, n, false)
+}
+
+// The length of the text, in small letters and capitals alike; its time does not grow with the digits or the zeros.
+pub fn hex_float_len(h: HexFloat) -> u64
+    ensures { λ r. ⌜ ((u : Bool) → r ≡ length (hexFloatText u h)) ⌝ }
+{
+    let tail = exponent_len(h.exponent, h.bias) as u64;
+    2 + (h.digits as u64) + (h.zeros as u64) + tail
+}
+
+// The digit before the point.
+fn leading_letter(leading: bool) -> u8
+    ensures { λ r. ⌜ r ≡ 48 + leadingDigit leading ⌝ }
+{
+    if leading {
+        return 49;
+    }
+    48
+}
+
+// Writes the text. Answers its length.
+pub fn write_hex_float(out: &mut [u8], h: HexFloat, upper: bool) -> usize
+    requires { ⌜ length (hexFloatText upper h) ≤ length (now out) ⌝ }
+    ensures { λ r. ⌜ (r ≡ length (hexFloatText upper h)) × (now (out .exit) ≡ laid (now (out .entry)) (hexFloatText upper h)) ⌝ }
+{
+    let digits = h.digits as usize;
+    let zeros = h.zeros as usize;
+    out[0] = leading_letter(h.leading);
+    out[1] = 46;
+    let a = 2 + numerals::write_digits(&mut out[2..], h.fraction, 16, digits, upper);
+    let b = a + writing::write_fill(&mut out[a..], zeros, 48);
+    b + write_exponent(&mut out[b..], h.exponent, h.bias, upper)
+}

@@ -1,0 +1,74 @@
+-- What stands around the text of a value: spaces, mark, prefix and zeros in front of it, spaces and a closing mark behind it.
+use Prim.Native.Nat.{ℕ, zero, suc, _+_, _-_}
+use mathlib.Core.List.{List, [], _∷_, _++_}
+use lib.ListN.{length, replicate}
+use Rattle.layout.specs.declared.Mark.{Mark}
+use Rattle.layout.specs.declared.Mark.the-variants.{NoMark, Plus, Space, Minus, Brackets}
+use Rattle.layout.specs.declared.Prefix.{Prefix}
+use Rattle.layout.specs.declared.Prefix.the-variants.{NoPrefix, Octal, HexLower, HexUpper}
+use Rattle.layout.specs.declared.Adjust.{Adjust}
+use Rattle.layout.specs.declared.Adjust.the-variants.{Right, Left, Zeros}
+use Rattle.layout.specs.declared.Frame.{Frame}
+
+-- A byte as text; 0 stands for none.
+abbrev pub byteText : ℕ → List ℕ
+byteText zero = []
+byteText (suc b) = suc b ∷ []
+
+-- 01: "Mark: `(` and `)` or `-` for negatives, else `+`, else space." In front of the digits:
+abbrev pub openingByte : Mark → ℕ
+openingByte NoMark = 0
+openingByte Plus = 43
+openingByte Space = 32
+openingByte Minus = 45
+openingByte Brackets = 40
+
+-- and behind them:
+abbrev pub closingByte : Mark → ℕ
+closingByte NoMark = 0
+closingByte Plus = 0
+closingByte Space = 0
+closingByte Minus = 0
+closingByte Brackets = 41
+
+-- 01: "`#` puts `0x`, `0X` or `0` in front, zeros of padding after it." Its zero and its letter:
+abbrev pub prefixZero : Prefix → ℕ
+prefixZero NoPrefix = 0
+prefixZero Octal = 48
+prefixZero HexLower = 48
+prefixZero HexUpper = 48
+
+abbrev pub prefixLetter : Prefix → ℕ
+prefixLetter NoPrefix = 0
+prefixLetter Octal = 0
+prefixLetter HexLower = 120
+prefixLetter HexUpper = 88
+
+-- Mark and prefix, as they stand before zeros and digits.
+abbrev pub marks : Mark → Prefix → List ℕ
+marks m p = byteText (openingByte m) ++ (byteText (prefixZero p) ++ byteText (prefixLetter p))
+
+unfoldable pub spaces : ℕ → List ℕ
+spaces n = replicate n 32
+
+-- In front of the value's text: spaces, mark, prefix, zeros.
+unfoldable pub headText : Frame → List ℕ
+headText f = spaces (f .before) ++ (marks (f .mark) (f .prefix) ++ replicate (f .zeros) 48)
+
+-- Behind it. 01: "With `-` the spaces stand before the closing `)`, as in 000."
+unfoldable pub tailText : Frame → List ℕ
+tailText f = spaces (f .after) ++ byteText (closingByte (f .mark))
+
+-- The text of a value in its frame.
+unfoldable pub framed : Frame → List ℕ → List ℕ
+framed f body = headText f ++ (body ++ tailText f)
+
+-- 01: "The width left for digits is width less marks, at least 0", the prefix counting too: what mark, prefix and a text of n leave of the width.
+unfoldable pub spare : ℕ → Mark → Prefix → ℕ → ℕ
+spare width m p n = width - (length (marks m p) + n + length (byteText (closingByte m)))
+
+-- Java, "Flags": without a flag the padding stands in front as spaces, with `0` as zeros behind mark and prefix, with `-` behind as spaces.
+unfoldable pub frameOf : ℕ → Adjust → Mark → Prefix → ℕ → Frame
+frameOf width Right m p n = record { before = spare width m p n; mark = m; prefix = p; zeros = 0; after = 0 }
+frameOf width Zeros m p n = record { before = 0; mark = m; prefix = p; zeros = spare width m p n; after = 0 }
+frameOf width Left m p n = record { before = 0; mark = m; prefix = p; zeros = 0; after = spare width m p n }
