@@ -28,21 +28,23 @@ right-more byte next t b s u e f g =
 
 module _ {S : Type 0} (byte : S → ℕ) (next : S → S) (d D : List ℕ) where
   pub written-none : (n : ℕ) (s : S) → D ≡ fromRight byte next n s → Written byte next d D d n s
-  written-none n s e =
-      (refl,
-      e ∙ all-left byte next n s ∙ ap (λ (l : List ℕ). fromRight byte next n s ++ drop n l) (sym e),
-      stored-none d D n (ap length e ∙ length-fromRight byte next n s))
+  written-none n s e = (
+    refl,
+    e ∙ all-left byte next n s ∙ ap (λ (l : List ℕ). fromRight byte next n s ++ drop n l) (sym e),
+    stored-none d D n (ap length e ∙ length-fromRight byte next n s),
+  )
 
   pub written-turn : (out : List ℕ) (i : ℕ) (s t : S) (b : ℕ) → 0 < i → i ≤ length d → byte s ≡ b → next s ≡ t
       → Written byte next d D out i s → Written byte next d D (set out (i - 1) b) (i - 1) t
   written-turn out i s t b p h e f w =
       let j = i - 1 in
       let g : i ≡ j + 1 = omega arith in
-      let m = one-more byte next j s D (w .1 ∙ ap (λ (k : ℕ). fromRight byte next k s ++ drop k D) g) in
-      (length-set out j b ∙ w .0,
-      m .0 ∙ ap (λ (u : S). fromRight byte next j u ++ drop j D) f,
-      ap (λ (o : List ℕ). set o j b) (w .2 ∙ ap (storedFrom d D) g)
-          ∙ store-one d D j b (omega arith) (m .1 ∙ ap (λ (c : ℕ). c ∷ drop (j + 1) D) e))
+      let m = one-more byte next j s D (w .1 ∙ ap (λ (k : ℕ). fromRight byte next k s ++ drop k D) g) in (
+        length-set out j b ∙ w .0,
+        m .0 ∙ ap (λ (u : S). fromRight byte next j u ++ drop j D) f,
+        ap (λ (o : List ℕ). set o j b) (w .2 ∙ ap (storedFrom d D) g)
+            ∙ store-one d D j b (omega arith) (m .1 ∙ ap (λ (c : ℕ). c ∷ drop (j + 1) D) e),
+      )
 
   pub written-all : (out : List ℕ) (i : ℕ) (s : S) → i ≡ 0 → Written byte next d D out i s → out ≡ laid d D
   written-all out i s e w = w .2 ∙ ap (storedFrom d D) e ∙ stored-all d D

@@ -1,4 +1,4 @@
--- Laws of positional numerals, once over the base: the digits of a number, the number of digits, and how many there are.
+-- Laws of positional numerals, once over the base: the digits of a number, the number that digits denote, and how many digits a number has.
 -- Assumes nothing.
 use mathlib.Core.Path.{_≡_, refl, sym, ap, _∙_}
 use mathlib.Core.Bool.{Bool}
@@ -26,6 +26,9 @@ abbrev pub Leading : List ℕ → Type 0
 Leading [] = ⊥
 Leading (d ∷ []) = Unit {0}
 Leading (d ∷ (e ∷ ds)) = 0 < d
+
+pow-one : (b : ℕ) → b ^ 1 ≡ b
+pow-one b = rw (pow-suc b 0, pow-zero, one-mul)
 
 -- Letters stand for digits one by one.
 pub length-letters : (u : Bool) (ds : List ℕ) → length (lettersOf u ds) ≡ length ds
@@ -70,7 +73,7 @@ pub below-zeros : (b k : ℕ) → 0 < b → Below b (replicate k 0)
 below-zeros b zero h = tt
 below-zeros b (suc k) h = (h, below-zeros b k h)
 
--- The number of digits: of a text after a text, of zeros, and by its first digits and its last.
+-- The number that digits denote: of a list after a list, of zeros, and with v before them.
 pub number-append : (b v : ℕ) (xs ys : List ℕ) → numberFrom b v (xs ++ ys) ≡ numberFrom b (numberFrom b v xs) ys
 unfolding numberFrom
 number-append b v [] ys = refl
@@ -79,9 +82,7 @@ number-append b v (d ∷ xs) ys = number-append b (v * b + d) xs ys
 pub number-zeros : (b v k : ℕ) → numberFrom b v (replicate k 0) ≡ v * b ^ k
 unfolding numberFrom
 number-zeros b v zero = sym (rw (pow-zero, mul-one))
-number-zeros b v (suc k) =
-    number-zeros b (v * b + 0) k
-    ∙ rw (add-zero, mul-assoc, pow-succ')
+number-zeros b v (suc k) = number-zeros b (v * b + 0) k ∙ rw (add-zero, mul-assoc, pow-succ')
 
 pub number-split : (b v : ℕ) (ds : List ℕ) → numberFrom b v ds ≡ v * b ^ length ds + numberOf b ds
 unfolding numberFrom numberOf
@@ -98,9 +99,8 @@ pub number-below : (b : ℕ) (ds : List ℕ) → Below b ds → numberOf b ds < 
 unfolding numberFrom numberOf
 number-below b [] h = rw pow-zero (omega arith)
 number-below b (d ∷ ds) h =
-    let e : numberFrom b (0 * b + d) ds ≡ d * b ^ length ds + numberFrom b 0 ds = ap (λ (z : ℕ). numberFrom b z ds) (omega arith) ∙ number-split b d ds in
-    let l : d * b ^ length ds + numberFrom b 0 ds < b * b ^ length ds = digits-lt (h .0) (number-below b ds (h .1)) in
-    rw (pow-succ', e) l
+    let f : 0 * b + d < b = omega (arith, h .0) in
+    rw (pow-succ', number-split b (0 * b + d) ds) (digits-lt f (number-below b ds (h .1)))
 
 -- The digits of a number denote it, and digits are those of their number.
 pub number-digitsIn : (b v k n : ℕ) → 0 < b → numberFrom b v (digitsIn b k n) ≡ v * b ^ k + n % b ^ k
@@ -148,9 +148,10 @@ within-enough : (f g b n : ℕ) → 2 ≤ b → n ≤ f → n ≤ g → placesWi
 within-enough zero g b n h p q = within-small zero b n (omega arith) ∙ sym (within-small g b n (omega arith))
 within-enough (suc f) zero b n h p q = within-small (suc f) b n (omega arith) ∙ sym (within-small zero b n (omega arith))
 within-enough (suc f) (suc g) b n h p q =
-    elim (decLt n b)
-    [ yes s ↦ within-small (suc f) b n s ∙ sym (within-small (suc g) b n s)
-    | no s ↦ larger (omega arith) (within-enough f g b (n / b) h) ]
+    elim (decLt n b) [
+      | yes s ↦ within-small (suc f) b n s ∙ sym (within-small (suc g) b n s)
+      | no s ↦ larger (omega arith) (within-enough f g b (n / b) h)
+    ]
   where
     larger : b ≤ n → (n / b ≤ f → n / b ≤ g → placesWithin f b (n / b) ≡ placesWithin g b (n / b)) → placesWithin (suc f) b n ≡ placesWithin (suc g) b n
     larger m ih =
@@ -174,7 +175,7 @@ places-pos b n h =
 
 -- A number between two powers has one digit more than the lower power's exponent.
 pub places-is : (b k n : ℕ) → 2 ≤ b → b ^ k ≤ n → n < b ^ suc k → places b n ≡ suc k
-places-is b zero n h lo hi = places-small b n (rw (pow-suc, pow-zero, one-mul) at hi)
+places-is b zero n h lo hi = places-small b n (rw pow-one at hi)
 places-is b (suc k) n h lo hi =
     let z : 0 < b = omega arith in
     let lo' : b ^ k * b ≤ n = rw pow-suc at lo in
@@ -182,14 +183,14 @@ places-is b (suc k) n h lo hi =
     let m : b ≤ n = le-trans (le-trans (le-mul-of-pos-right b (one-le-pow k b z)) (le-of-eq (mul-comm b (b ^ k)))) lo' in
     places-more b n h m ∙ ap suc (places-is b k (n / b) h (le-div-iff-mul-le z .1 lo') (div-lt-iff-lt-mul z .1 hi'))
 
--- A number fits in its places, and in no fewer than it needs.
-fits-within : (f b n : ℕ) → 2 ≤ b → n ≤ f → n < b ^ places b n
-fits-within zero b n h e = rw (places-small b n (omega arith), pow-suc, pow-zero, one-mul) (omega arith)
-fits-within (suc f) b n h e = elim (decLt n b) [ yes s ↦ small s | no s ↦ larger (omega arith) (fits-within f b (n / b) h) ]
-  where
-    small : n < b → n < b ^ places b n
-    small s = rw (places-small b n s, pow-suc, pow-zero, one-mul) s
+-- A number fits in its places, and it has no more than it needs.
+small-fits : (b n : ℕ) → n < b → n < b ^ places b n
+small-fits b n s = rw (places-small b n s, pow-one) s
 
+fits-within : (f b n : ℕ) → 2 ≤ b → n ≤ f → n < b ^ places b n
+fits-within zero b n h e = small-fits b n (omega arith)
+fits-within (suc f) b n h e = elim (decLt n b) [ yes s ↦ small-fits b n s | no s ↦ larger (omega arith) (fits-within f b (n / b) h) ]
+  where
     larger : b ≤ n → (n / b ≤ f → n / b < b ^ places b (n / b)) → n < b ^ places b n
     larger m ih =
         let z : 0 < b = omega arith in
@@ -199,13 +200,14 @@ pub places-fits : (b n : ℕ) → 2 ≤ b → n < b ^ places b n
 places-fits b n h = fits-within n b n h (le-refl n)
 
 pub places-le : (b k n : ℕ) → 2 ≤ b → n < b ^ suc k → places b n ≤ suc k
-places-le b zero n h hi = le-of-eq (places-small b n (rw (pow-suc, pow-zero, one-mul) at hi))
+places-le b zero n h hi = le-of-eq (places-small b n (rw pow-one at hi))
 places-le b (suc k) n h hi =
     let z : 0 < b = omega arith in
     let hi' : n / b < b ^ suc k = div-lt-iff-lt-mul z .1 (rw (pow-suc b (suc k)) at hi) in
-    elim (decLt n b)
-    [ yes s ↦ omega (arith, places-small b n s)
-    | no s ↦ omega (arith, places-more b n h (omega arith), places-le b k (n / b) h hi') ]
+    elim (decLt n b) [
+      | yes s ↦ omega (arith, places-small b n s)
+      | no s ↦ omega (arith, places-more b n h (omega arith), places-le b k (n / b) h hi')
+    ]
 
 pub length-numeral : (u : Bool) (b n : ℕ) → length (numeral u b n) ≡ places b n
 unfolding numeral digits

@@ -19,7 +19,7 @@ use Rattle.numerals.proofs.Digits.{letters-append, length-numeral}
 
 -- a comma, or none
 comma : (r : ℕ) → r % 3 ≡ 2 → commaAfter (suc r) ≡ 44 ∷ []
-comma r e = 
+comma r e =
     let z : suc r % 3 ≡ 0 = omega arith in
     simp (lt-ltb 0 (suc r) (omega arith), eq-eqb (suc r % 3) 0 z)
 
@@ -99,9 +99,10 @@ with-comma t v g =
 digit-before : (r : ℕ) (t : List ℕ) (v : ℕ) → Right t (v / 10, run (r + 1)) → Right (t ++ (letterOf false (v % 10) ∷ commaAfter r)) (v, run r)
 digit-before zero t v g = one-digit t v 0 (λ e. omega arith) g
 digit-before (suc r) t v g =
-    elim (ℕ-discrete (r % 3) 2)
-    [ yes e ↦ at (44 ∷ []) 3 (comma r e) (omega arith) (with-comma t v (next 1 (omega arith)))
-    | no n ↦ at [] (r % 3 + 1) (no-comma r n) refl (one-digit t v (r % 3 + 1) (λ e. n (omega arith)) (next (r % 3 + 1 + 1) (omega arith))) ]
+    elim (ℕ-discrete (r % 3) 2) [
+      | yes e ↦ at (44 ∷ []) 3 (comma r e) (omega arith) (with-comma t v (next 1 (omega arith)))
+      | no n ↦ at [] (r % 3 + 1) (no-comma r n) refl (one-digit t v (r % 3 + 1) (λ e. n (omega arith)) (next (r % 3 + 1 + 1) (omega arith)))
+    ]
   where
     at : (l : List ℕ) (q : ℕ) → commaAfter (suc r) ≡ l → r % 3 + 1 ≡ q → Right (t ++ (letterOf false (v % 10) ∷ l)) (v, q)
         → Right (t ++ (letterOf false (v % 10) ∷ commaAfter (suc r))) (v, r % 3 + 1)

@@ -61,9 +61,10 @@ low-negative w x m h k e i =
 
 pub low-bits : (w x : ℕ) → 1 ≤ w → w ≤ 64 → x < 2 ^ 64 → InWidth w (intOf 64 x) → x % 2 ^ w ≡ bitsOf w (intOf 64 x)
 low-bits w x h k b i =
-    elim (decLt x (2 ^ 63))
-    [ yes p ↦ at (pos x) (intOf-low 64 x p) (low-positive w x h)
-    | no p ↦ at (negsuc (2 ^ 64 - x - 1)) (intOf-high 64 x (2 ^ 64 - x - 1) (omega arith) (omega arith)) (low-negative w x (2 ^ 64 - x - 1) h k (omega arith)) ]
+    elim (decLt x (2 ^ 63)) [
+      | yes p ↦ at (pos x) (intOf-low 64 x p) (low-positive w x h)
+      | no p ↦ at (negsuc (2 ^ 64 - x - 1)) (intOf-high 64 x (2 ^ 64 - x - 1) (omega arith) (omega arith)) (low-negative w x (2 ^ 64 - x - 1) h k (omega arith))
+    ]
   where
     at : (z : ℤ) → intOf 64 x ≡ z → (InWidth w z → x % 2 ^ w ≡ bitsOf w z) → x % 2 ^ w ≡ bitsOf w (intOf 64 x)
     at z e f = f (subst (InWidth w) e i) ∙ ap (bitsOf w) (sym e)

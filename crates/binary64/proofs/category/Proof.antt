@@ -4,9 +4,6 @@ use borrow.Author.Tests.{eq-eqb, ne-eqb}
 use Rattle.binary64.specs.Fields.{categoryOf}
 use Rattle.binary64.proofs.category.Statement.{statement}
 use Rattle.binary64.proofs.category.Tie as tie
-use Rattle.binary64.proofs.category.Reads as reads
-use Rattle.binary64.proofs.category.Lts as lts
-use Rattle.binary64.proofs.to_parts.Reads as to-parts-reads
 
 to-parts-requires : tie.Need-to-parts-requires
 to-parts-requires c κs = search needs

@@ -1,13 +1,10 @@
 -- `binary64::exponent_len` meets its contract. Assumes nothing.
 use Prim.Native.Nat.{_-_}
 use native.Mathlib.Omega.{arith}
-use Rattle.binary64.proofs.Texts.{ten-places, below-length, above-length}
 use borrow.Author.Needs.{needs}
+use Rattle.binary64.proofs.Texts.{ten-places, below-length, above-length}
 use Rattle.binary64.proofs.exponent_len.Statement.{statement}
 use Rattle.binary64.proofs.exponent_len.Tie as tie
-use Rattle.binary64.proofs.exponent_len.Reads as reads
-use Rattle.binary64.proofs.exponent_len.Lts as lts
-use Rattle.numerals.proofs.decimal_len.Reads as decimal-len-reads
 
 sub-decimal-len : tie.Need-sub-decimal-len
 sub-decimal-len c = search needs

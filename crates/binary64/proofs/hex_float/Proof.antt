@@ -1,25 +1,21 @@
+-- `binary64::hex_float` meets its contract. Assumes nothing.
+use Prim.Native.Nat.{_^_, _<_}
 use native.Mathlib.Omega.{arith}
 use borrow.Author.Tests.{eq-eqb, ne-eqb}
-use Rattle.binary64.proofs.Value.{field-bounds}
--- `binary64::hex_float` meets its contract. Assumes nothing.
-use Rattle.binary64.specs.HexFloat.{hexFloatOf}
 use borrow.Author.Needs.{needs}
+use Rattle.binary64.specs.HexFloat.{hexFloatOf}
+use Rattle.binary64.proofs.Value.{field-bounds}
 use Rattle.binary64.proofs.hex_float.Statement.{statement}
 use Rattle.binary64.proofs.hex_float.Tie as tie
-use Rattle.binary64.proofs.hex_float.Reads as reads
-use Rattle.binary64.proofs.hex_float.Lts as lts
-use Rattle.binary64.proofs.normal.Reads as normal-reads
-use Rattle.binary64.proofs.subnormal.Reads as subnormal-reads
-use Rattle.binary64.proofs.to_parts.Reads as to-parts-reads
 
 to-parts-requires : tie.Need-to-parts-requires
 to-parts-requires c κs = search needs
 
+bounds : (c : tie.After-to-parts) → (c .to-parts .result .mantissa < 2 ^ 52) × (c .to-parts .result .exponent < 2048)
+bounds c = let b = field-bounds (c .before .args .bits) in (omega (arith, c .to-parts .ensures), omega (arith, c .to-parts .ensures))
+
 normal-requires : tie.Need-normal-requires
-normal-requires c κs =
-    let e = c .before .to-parts .ensures in
-    let b = field-bounds (c .before .before .args .bits) in
-    (omega arith, omega arith)
+normal-requires c κs = bounds (c .before)
 
 returns : tie.Need-returns
 unfolding hexFloatOf
@@ -28,10 +24,7 @@ returns c =
     simp (← e .1, ← e .2, ne-eqb _ _ (c .before .if1 .taken)) (c .normal .ensures)
 
 subnormal-requires : tie.Need-subnormal-requires
-subnormal-requires c κs =
-    let e = c .before .before .to-parts .ensures in
-    let b = field-bounds (c .before .before .before .args .bits) in
-    (omega arith, omega arith)
+subnormal-requires c κs = (omega (arith, c .if2 .taken), bounds (c .before .before) .0)
 
 returns-2 : tie.Need-returns-2
 unfolding hexFloatOf

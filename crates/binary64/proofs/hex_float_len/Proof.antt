@@ -1,13 +1,10 @@
 -- `binary64::hex_float_len` meets its contract. Assumes nothing.
 use mathlib.Core.Bool.{false}
 use native.Mathlib.Omega.{arith}
-use Rattle.binary64.proofs.Texts.{exponent-length, hex-length}
 use borrow.Author.Needs.{needs}
+use Rattle.binary64.proofs.Texts.{exponent-length, hex-length}
 use Rattle.binary64.proofs.hex_float_len.Statement.{statement}
 use Rattle.binary64.proofs.hex_float_len.Tie as tie
-use Rattle.binary64.proofs.hex_float_len.Reads as reads
-use Rattle.binary64.proofs.hex_float_len.Lts as lts
-use Rattle.binary64.proofs.exponent_len.Reads as exponent-len-reads
 
 exponent-len-requires : tie.Need-exponent-len-requires
 exponent-len-requires c κs = search needs
@@ -25,7 +22,9 @@ add-result-2 : tie.Need-add-result-2
 add-result-2 c = search needs
 
 add-result-3 : tie.Need-add-result-3
-add-result-3 c = let k = c .struct-known2 .given in ?
+add-result-3 c =
+    let h = c .before .before .before .args .h in
+    omega (arith, c .before .before .exponent-len .ensures false, exponent-length false (h .exponent) (h .bias) (search needs) (search needs))
 
 returns : tie.Need-returns
 returns c = λ u. let h = c .before .before .before .args .h in omega (arith, hex-length u h, c .before .before .exponent-len .ensures u)

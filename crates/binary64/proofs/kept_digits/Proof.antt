@@ -8,8 +8,6 @@ use Rattle.binary64.specs.Rounding.{keptDigits}
 use Rattle.binary64.proofs.Kept.{kept-less, kept-all, kept-one}
 use Rattle.binary64.proofs.kept_digits.Statement.{statement}
 use Rattle.binary64.proofs.kept_digits.Tie as tie
-use Rattle.binary64.proofs.kept_digits.Reads as reads
-use Rattle.binary64.proofs.kept_digits.Lts as lts
 
 abbrev Inv-loop : tie.InvT-loop
 Inv-loop mantissa fraction₀ digits₀ fraction digits =

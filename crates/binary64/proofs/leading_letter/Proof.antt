@@ -1,14 +1,12 @@
 -- `binary64::leading_letter` meets its contract. Assumes nothing.
 use Rattle.binary64.proofs.leading_letter.Statement.{statement}
 use Rattle.binary64.proofs.leading_letter.Tie as tie
-use Rattle.binary64.proofs.leading_letter.Reads as reads
-use Rattle.binary64.proofs.leading_letter.Lts as lts
 
 returns : tie.Need-returns
-returns c = ?
+returns c = simp (c .if1 .taken)
 
 returns-2 : tie.Need-returns-2
-returns-2 c = ?
+returns-2 c = simp (c .if1 .left)
 
 pub leading-letter-spec : {M : Type 1} → statement M
 leading-letter-spec = tie.close (tie.spec returns returns-2)

@@ -2,12 +2,10 @@
 use native.Mathlib.Nat.{mod-le, div-le-self}
 use native.Mathlib.Omega.{arith}
 use borrow.Author.Tests.{lt-ltb, le-ltb}
-use Rattle.binary64.specs.Rounding.{nearestTo}
 use borrow.Author.Needs.{needs}
+use Rattle.binary64.specs.Rounding.{nearestTo}
 use Rattle.binary64.proofs.nearest_to.Statement.{statement}
 use Rattle.binary64.proofs.nearest_to.Tie as tie
-use Rattle.binary64.proofs.nearest_to.Reads as reads
-use Rattle.binary64.proofs.nearest_to.Lts as lts
 
 div-quotient : tie.Need-div-quotient
 div-quotient c = search needs

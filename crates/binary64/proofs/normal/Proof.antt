@@ -1,15 +1,11 @@
+-- `binary64::normal` meets its contract. Assumes nothing.
 use mathlib.Core.Path.{_≡_}
 use Prim.Native.Nat.{ℕ, max}
 use native.Mathlib.Nat.{max-eq-left}
 use native.Mathlib.Omega.{arith}
--- `binary64::normal` meets its contract. Assumes nothing.
 use borrow.Author.Needs.{needs}
 use Rattle.binary64.proofs.normal.Statement.{statement}
 use Rattle.binary64.proofs.normal.Tie as tie
-use Rattle.binary64.proofs.normal.Reads as reads
-use Rattle.binary64.proofs.normal.Lts as lts
-use Rattle.binary64.proofs.trimmed.Reads as trimmed-reads
-use Rattle.binary64.proofs.with_precision.Reads as with-precision-reads
 
 at-least-one : (p : ℕ) → (p ≡ 0 → ⊥) → max p 1 ≡ p
 at-least-one p n = max-eq-left (omega arith)

@@ -9,8 +9,6 @@ use Rattle.binary64.proofs.Value.{not-nan}
 use Rattle.binary64.proofs.Scaled.{factor, subnormal-value, product-value}
 use Rattle.binary64.proofs.scale_up.Statement.{statement}
 use Rattle.binary64.proofs.scale_up.Tie as tie
-use Rattle.binary64.proofs.scale_up.Reads as reads
-use Rattle.binary64.proofs.scale_up.Lts as lts
 
 float-from-bits-value : tie.Need-float-from-bits-value
 float-from-bits-value c =

@@ -1,16 +1,10 @@
+-- `binary64::subnormal` meets its contract. Assumes nothing.
 use native.Mathlib.Omega.{arith}
 use borrow.Author.Tests.{lt-ltb, le-ltb}
-use Rattle.binary64.proofs.Value.{field-bounds}
--- `binary64::subnormal` meets its contract. Assumes nothing.
 use borrow.Author.Needs.{needs}
+use Rattle.binary64.proofs.Value.{field-bounds}
 use Rattle.binary64.proofs.subnormal.Statement.{statement}
 use Rattle.binary64.proofs.subnormal.Tie as tie
-use Rattle.binary64.proofs.subnormal.Reads as reads
-use Rattle.binary64.proofs.subnormal.Lts as lts
-use Rattle.binary64.proofs.normal.Reads as normal-reads
-use Rattle.binary64.proofs.scale_up.Reads as scale-up-reads
-use Rattle.binary64.proofs.to_parts.Reads as to-parts-reads
-use Rattle.binary64.proofs.unscaled.Reads as unscaled-reads
 
 enum-told : tie.Need-enum-told
 enum-told c = search needs

@@ -3,8 +3,6 @@ use borrow.Author.Needs.{needs}
 use Rattle.binary64.specs.Fields.{negative, exponentField, fractionField}
 use Rattle.binary64.proofs.to_parts.Statement.{statement}
 use Rattle.binary64.proofs.to_parts.Tie as tie
-use Rattle.binary64.proofs.to_parts.Reads as reads
-use Rattle.binary64.proofs.to_parts.Lts as lts
 
 cast-t5 : tie.Need-cast-t5
 cast-t5 c = search needs

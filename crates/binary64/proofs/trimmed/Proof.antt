@@ -1,15 +1,12 @@
-use Rattle.binary64.specs.Rounding.{keptDigits}
 -- `binary64::trimmed` meets its contract. Assumes nothing.
 use native.Mathlib.Omega.{arith}
+use borrow.Author.Needs.{needs}
+use Rattle.binary64.specs.Rounding.{keptDigits}
 use Rattle.binary64.specs.HexFloat.{shortest}
 use Rattle.binary64.proofs.Kept.{kept-bounds}
 use Rattle.binary64.proofs.Powers.{sixteens-left}
-use borrow.Author.Needs.{needs}
 use Rattle.binary64.proofs.trimmed.Statement.{statement}
 use Rattle.binary64.proofs.trimmed.Tie as tie
-use Rattle.binary64.proofs.trimmed.Reads as reads
-use Rattle.binary64.proofs.trimmed.Lts as lts
-use Rattle.binary64.proofs.kept_digits.Reads as kept-digits-reads
 
 kept-digits-requires : tie.Need-kept-digits-requires
 kept-digits-requires c κs = search needs

@@ -1,19 +1,16 @@
-use mathlib.Core.Path.{_≡_, ap, _∙_, subst}
-use Prim.Native.Nat.{ℕ, _+_, _-_, _*_, _^_, _≤_, _<_}
-use lib.Pow.{pow-pos}
-use Rattle.binary64.specs.Rounding.{nearestTo}
-use Rattle.binary64.proofs.Powers.{one-shifted}
 -- `binary64::with_precision` meets its contract. Assumes nothing.
+use mathlib.Core.Path.{_≡_, ap, _∙_, subst}
+use Prim.Native.Nat.{ℕ, _+_, _-_, _^_, _≤_, _<_}
+use native.Mathlib.Nat.{one-le-pow}
 use native.Mathlib.Omega.{arith}
-use borrow.Author.Tests.{lt-ltb, le-ltb}
-use Rattle.binary64.specs.HexFloat.{normalForm, rounded}
-use Rattle.binary64.proofs.Powers.{sixteens, sixteens-left}
+use lib.Dec.{lit<}
 use borrow.Author.Needs.{needs}
+use borrow.Author.Tests.{lt-ltb, le-ltb}
+use Rattle.binary64.specs.Rounding.{nearestTo}
+use Rattle.binary64.specs.HexFloat.{normalForm, rounded}
+use Rattle.binary64.proofs.Powers.{shifted, shifted-left}
 use Rattle.binary64.proofs.with_precision.Statement.{statement}
 use Rattle.binary64.proofs.with_precision.Tie as tie
-use Rattle.binary64.proofs.with_precision.Reads as reads
-use Rattle.binary64.proofs.with_precision.Lts as lts
-use Rattle.binary64.proofs.nearest_to.Reads as nearest-to-reads
 
 -- a fraction that was rounded to p digits, without a carry and with one
 module _ (p f e bias r : ℕ) (h : p < 13) (q : r ≡ nearestTo f (16 ^ (13 - p))) where
@@ -43,8 +40,13 @@ shl-nearest-to c = search needs
 
 nearest-to-requires : tie.Need-nearest-to-requires
 nearest-to-requires c κs =
-    let k = 52 - 4 * c .before .args .precision in
-    (omega arith, rw (one-shifted k (omega arith)) (pow-pos k))
+    let p = c .before .args .precision in
+    (omega arith, rw (shifted-left p (omega arith)) (one-le-pow (13 - p) 16 (lit< tt)))
+
+nearest : (c : tie.After-nearest-to) → c .nearest-to .result ≡ nearestTo (c .before .before .args .mantissa) (16 ^ (13 - c .before .before .args .precision))
+nearest c =
+    let a = c .before .before .args in
+    c .nearest-to .ensures ∙ ap (nearestTo (a .mantissa)) (shifted-left (a .precision) (omega arith))
 
 mul-if2 : tie.Need-mul-if2
 mul-if2 c = search needs
@@ -58,11 +60,9 @@ shl-if2 c = search needs
 returns-2 : tie.Need-returns-2
 returns-2 c =
     let a = c .before .before .before .args in
-    let p = a .precision in
     let r = c .before .nearest-to .result in
-    no-carry p (a .mantissa) (a .exponent) (a .bias) r (c .before .before .if1 .left)
-    (c .before .nearest-to .ensures ∙ ap (nearestTo (a .mantissa)) (one-shifted (52 - 4 * p) (omega arith) ∙ sixteens-left p (omega arith)))
-    (subst (λ (z : ℕ). r < z) (one-shifted (4 * p) (omega arith) ∙ sixteens p) (c .if2 .taken))
+    no-carry (a .precision) (a .mantissa) (a .exponent) (a .bias) r (c .before .before .if1 .left) (nearest (c .before))
+    (subst (λ (z : ℕ). r < z) (shifted (a .precision) (omega arith)) (c .if2 .taken))
 
 add-t9 : tie.Need-add-t9
 add-t9 c = search needs
@@ -70,11 +70,9 @@ add-t9 c = search needs
 returns-3 : tie.Need-returns-3
 returns-3 c =
     let a = c .before .before .before .args in
-    let p = a .precision in
     let r = c .before .nearest-to .result in
-    carry p (a .mantissa) (a .exponent) (a .bias) r (c .before .before .if1 .left)
-    (c .before .nearest-to .ensures ∙ ap (nearestTo (a .mantissa)) (one-shifted (52 - 4 * p) (omega arith) ∙ sixteens-left p (omega arith)))
-    (subst (λ (z : ℕ). z ≤ r) (one-shifted (4 * p) (omega arith) ∙ sixteens p) (c .if2 .left))
+    carry (a .precision) (a .mantissa) (a .exponent) (a .bias) r (c .before .before .if1 .left) (nearest (c .before))
+    (subst (λ (z : ℕ). z ≤ r) (shifted (a .precision) (omega arith)) (c .if2 .left))
 
 pub with-precision-spec : {M : Type 1} → statement M
 with-precision-spec =

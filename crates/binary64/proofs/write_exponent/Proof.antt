@@ -1,21 +1,16 @@
--- `binary64::write_exponent` meets its contract. Assumes nothing.
-use mathlib.Core.Path.{_≡_, refl, sym, ap, _∙_}
-use mathlib.Core.List.{List, [], _∷_, _++_}
-use Prim.Native.Nat.{ℕ, _+_, _-_}
+-- `binary64::write_exponent` meets its contract: the letter and perhaps a sign are stored, and the digits written behind them. Assumes nothing.
+use mathlib.Core.Path.{ap, _∙_}
+use mathlib.Core.List.{[], _∷_}
+use Prim.Native.Nat.{_+_, _-_, _≤_}
 use native.Mathlib.Omega.{arith}
-use lib.ListN.{length, length-set}
-use Rattle.writing.specs.Laid.{laid}
-use Rattle.writing.proofs.Laid.{laid-next}
-use Rattle.binary64.specs.HexFloat.{exponentLetter, exponentText}
-use Rattle.binary64.proofs.Texts.{laid-stores, decimal-is, below-text, above-text, below-length, above-length, exponent-length}
+use lib.Dec.{lit≤}
+use lib.ListN.{length, length-set, length-take, length-drop}
 use borrow.Author.Needs.{needs}
+use Rattle.writing.proofs.Laid.{length-laid}
+use Rattle.binary64.specs.HexFloat.{exponentText}
+use Rattle.binary64.proofs.Texts.{below-text, above-text, below-length, above-length, exponent-length, exponent-laid}
 use Rattle.binary64.proofs.write_exponent.Statement.{statement}
 use Rattle.binary64.proofs.write_exponent.Tie as tie
-use Rattle.binary64.proofs.write_exponent.Reads as reads
-use Rattle.binary64.proofs.write_exponent.Lts as lts
-use Rattle.binary64.proofs.exponent_letter.Reads as exponent-letter-reads
-use Rattle.numerals.proofs.decimal_len.Reads as decimal-len-reads
-use Rattle.numerals.proofs.write_digits.Reads as write-digits-reads
 
 exponent-letter-requires : tie.Need-exponent-letter-requires
 exponent-letter-requires c κs = search needs
@@ -39,30 +34,42 @@ cast-below c = search needs
 decimal-len-requires : tie.Need-decimal-len-requires
 decimal-len-requires c κs = search needs
 
-sub-write-digits : tie.Need-sub-write-digits
-sub-write-digits c =
+-- there is room for the digits
+room : (c : tie.After-decimal-len) → 2 + c .decimal-len .result ≤ length (c .before .before .before .before .args .out .now)
+room c =
     let a = c .before .before .before .before .args in
-    simp length-set (omega (arith, below-length (a .upper) (a .exponent) (a .bias) (c .before .if1 .taken)))
+    omega (arith, c .decimal-len .ensures, below-length (a .upper) (a .exponent) (a .bias) (c .before .if1 .taken))
+
+sub-write-digits : tie.Need-sub-write-digits
+sub-write-digits c = simp length-set (omega (arith, room c))
 
 part-write-digits-start : tie.Need-part-write-digits-start
-part-write-digits-start c =
-    let a = c .before .before .before .before .args in
-    simp length-set (omega (arith, below-length (a .upper) (a .exponent) (a .bias) (c .before .if1 .taken)))
+part-write-digits-start c = simp length-set (omega (arith, room c))
 
 part-write-digits-end : tie.Need-part-write-digits-end
 part-write-digits-end c = search needs
 
 write-digits-requires : tie.Need-write-digits-requires
-write-digits-requires c κs = ?
+write-digits-requires c κs = (lit≤ tt, lit≤ tt, simp (length-take, length-drop, length-set) (omega (arith, room (c .before))))
 
 add-result : tie.Need-add-result
-add-result c = ?
-
-same-length : tie.Need-same-length
-same-length c = ?
+add-result c = omega (arith, room (c .before .before .before .before), c .before .before .write-digits .ensures .0)
 
 returns : tie.Need-returns
-returns c = ?
+returns c =
+    let a = c .before .before .before .before .before .before .before .before .args in
+    let b = c .before .before .before .before .before .before .exponent-letter in
+    let n = c .before .before .before .before .decimal-len in
+    let x = c .before .before .write-digits in
+    let h = c .before .before .before .before .before .if1 .taken in
+    (omega (arith, x .ensures .0, n .ensures, below-length (a .upper) (a .exponent) (a .bias) h),
+    exponent-laid (a .upper) (a .exponent) (a .bias) (45 ∷ []) (a .bias - a .exponent) (below-text (a .upper) (a .exponent) (a .bias) h) (a .out .now) (x .last .0)
+    (b .result) (n .result) (b .ensures) (n .ensures) (c .before .before .before .before .before .before .before .before .pre) (x .ensures .1))
+
+same-length : tie.Need-same-length
+same-length c =
+    let a = c .before .before .before .before .before .before .before .before .args in
+    ap length (returns c .1) ∙ length-laid (a .out .now) (exponentText (a .upper) (a .exponent) (a .bias)) (c .before .before .before .before .before .before .before .before .pre)
 
 cast-above : tie.Need-cast-above
 cast-above c = search needs
@@ -70,30 +77,42 @@ cast-above c = search needs
 decimal-len-requires-2 : tie.Need-decimal-len-requires-2
 decimal-len-requires-2 c κs = search needs
 
-sub-write-digits-2 : tie.Need-sub-write-digits-2
-sub-write-digits-2 c =
+-- there is room for the digits
+room-2 : (c : tie.After-decimal-len2) → 1 + c .decimal-len2 .result ≤ length (c .before .before .before .before .args .out .now)
+room-2 c =
     let a = c .before .before .before .before .args in
-    simp length-set (omega (arith, above-length (a .upper) (a .exponent) (a .bias) (c .before .if1 .left)))
+    omega (arith, c .decimal-len2 .ensures, above-length (a .upper) (a .exponent) (a .bias) (c .before .if1 .left))
+
+sub-write-digits-2 : tie.Need-sub-write-digits-2
+sub-write-digits-2 c = simp length-set (omega (arith, room-2 c))
 
 part-write-digits-start-2 : tie.Need-part-write-digits-start-2
-part-write-digits-start-2 c =
-    let a = c .before .before .before .before .args in
-    simp length-set (omega (arith, above-length (a .upper) (a .exponent) (a .bias) (c .before .if1 .left)))
+part-write-digits-start-2 c = simp length-set (omega (arith, room-2 c))
 
 part-write-digits-end-2 : tie.Need-part-write-digits-end-2
 part-write-digits-end-2 c = search needs
 
 write-digits-requires-2 : tie.Need-write-digits-requires-2
-write-digits-requires-2 c κs = ?
+write-digits-requires-2 c κs = (lit≤ tt, lit≤ tt, simp (length-take, length-drop, length-set) (omega (arith, room-2 (c .before))))
 
 add-result-2 : tie.Need-add-result-2
-add-result-2 c = ?
-
-same-length-2 : tie.Need-same-length-2
-same-length-2 c = ?
+add-result-2 c = omega (arith, room-2 (c .before .before .before .before), c .before .before .write-digits2 .ensures .0)
 
 returns-2 : tie.Need-returns-2
-returns-2 c = ?
+returns-2 c =
+    let a = c .before .before .before .before .before .before .before .before .args in
+    let b = c .before .before .before .before .before .before .exponent-letter in
+    let n = c .before .before .before .before .decimal-len2 in
+    let x = c .before .before .write-digits2 in
+    let h = c .before .before .before .before .before .if1 .left in
+    (omega (arith, x .ensures .0, n .ensures, above-length (a .upper) (a .exponent) (a .bias) h),
+    exponent-laid (a .upper) (a .exponent) (a .bias) [] (a .exponent - a .bias) (above-text (a .upper) (a .exponent) (a .bias) h) (a .out .now) (x .last .0)
+    (b .result) (n .result) (b .ensures) (n .ensures) (c .before .before .before .before .before .before .before .before .pre) (x .ensures .1))
+
+same-length-2 : tie.Need-same-length-2
+same-length-2 c =
+    let a = c .before .before .before .before .before .before .before .before .args in
+    ap length (returns-2 c .1) ∙ length-laid (a .out .now) (exponentText (a .upper) (a .exponent) (a .bias)) (c .before .before .before .before .before .before .before .before .pre)
 
 pub write-exponent-spec : {M : Type 1} → statement M
 write-exponent-spec =

@@ -1,13 +1,18 @@
--- `binary64::write_hex_float` meets its contract. Assumes nothing.
+-- `binary64::write_hex_float` meets its contract: two bytes are stored, and three texts written behind them. Assumes nothing.
+use mathlib.Core.Path.{_≡_, refl, ap, _∙_}
+use mathlib.Core.List.{List, [], _∷_, _++_}
+use Prim.Native.Nat.{ℕ, _+_, _≤_}
+use native.Mathlib.Omega.{arith}
+use lib.ListN.{length, set, replicate, length-set, length-append, length-replicate}
 use borrow.Author.Needs.{needs}
+use Rattle.writing.specs.Laid.{laid}
+use Rattle.writing.proofs.Laid.{laid-next, length-laid}
+use Rattle.numerals.specs.Digits.{digitsIn, lettersOf}
+use Rattle.numerals.proofs.Digits.{length-letters, length-digitsIn}
+use Rattle.binary64.specs.HexFloat.{exponentText, hexFloatText}
+use Rattle.binary64.proofs.Texts.{laid-stores, hex-length, hex-written}
 use Rattle.binary64.proofs.write_hex_float.Statement.{statement}
 use Rattle.binary64.proofs.write_hex_float.Tie as tie
-use Rattle.binary64.proofs.write_hex_float.Reads as reads
-use Rattle.binary64.proofs.write_hex_float.Lts as lts
-use Rattle.binary64.proofs.leading_letter.Reads as leading-letter-reads
-use Rattle.binary64.proofs.write_exponent.Reads as write-exponent-reads
-use Rattle.numerals.proofs.write_digits.Reads as write-digits-reads
-use Rattle.writing.proofs.write_fill.Reads as write-fill-reads
 
 cast-digits : tie.Need-cast-digits
 cast-digits c = search needs
@@ -18,62 +23,88 @@ cast-zeros c = search needs
 leading-letter-requires : tie.Need-leading-letter-requires
 leading-letter-requires c κs = search needs
 
+-- there is room for the parts of the text, and the two stores leave it
+room : (c : tie.After-leading-letter)
+    → (2 + (c .before .before .before .before .args .h .digits + (c .before .before .before .before .args .h .zeros + length (exponentText (c .before .before .before .before .args .upper) (c .before .before .before .before .args .h .exponent) (c .before .before .before .before .args .h .bias)))) ≤ length (c .before .before .before .before .args .out .now))
+    × (length (set (set (c .before .before .before .before .args .out .now) 0 (c .leading-letter .result)) 1 46) ≡ length (c .before .before .before .before .args .out .now))
+room c = (omega (arith, hex-length (c .before .before .before .before .args .upper) (c .before .before .before .before .args .h)), simp length-set)
+
 slice-write-out : tie.Need-slice-write-out
-slice-write-out c = ?
+slice-write-out c = let r = room c in search needs
 
 slice-write-out-2 : tie.Need-slice-write-out-2
-slice-write-out-2 c = ?
+slice-write-out-2 c = let r = room c in simp length-set (omega arith)
 
 sub-write-digits : tie.Need-sub-write-digits
-sub-write-digits c = ?
+sub-write-digits c = let r = room c in search needs
 
 part-write-digits-start : tie.Need-part-write-digits-start
-part-write-digits-start c = ?
+part-write-digits-start c = let r = room c in search needs
 
 part-write-digits-end : tie.Need-part-write-digits-end
 part-write-digits-end c = search needs
 
 write-digits-requires : tie.Need-write-digits-requires
-write-digits-requires c κs = ?
+write-digits-requires c κs = let r = room (c .before) in search needs
 
 add-a : tie.Need-add-a
 add-a c = search needs
 
 sub-write-fill : tie.Need-sub-write-fill
-sub-write-fill c = ?
+sub-write-fill c = let r = room (c .before .before .before .before) in search needs
 
 part-write-fill-start : tie.Need-part-write-fill-start
-part-write-fill-start c = ?
+part-write-fill-start c = let r = room (c .before .before .before .before) in search needs
 
 part-write-fill-end : tie.Need-part-write-fill-end
 part-write-fill-end c = search needs
 
 write-fill-requires : tie.Need-write-fill-requires
-write-fill-requires c κs = ?
+write-fill-requires c κs = let r = room (c .before .before .before .before .before) in search needs
 
 add-b : tie.Need-add-b
 add-b c = search needs
 
 sub-write-exponent : tie.Need-sub-write-exponent
-sub-write-exponent c = ?
+sub-write-exponent c = let r = room (c .before .before .before .before .before .before .before .before) in search needs
 
 part-write-exponent-start : tie.Need-part-write-exponent-start
-part-write-exponent-start c = ?
+part-write-exponent-start c = let r = room (c .before .before .before .before .before .before .before .before) in search needs
 
 part-write-exponent-end : tie.Need-part-write-exponent-end
 part-write-exponent-end c = search needs
 
 write-exponent-requires : tie.Need-write-exponent-requires
-write-exponent-requires c κs = ?
+write-exponent-requires c κs = let r = room (c .before .before .before .before .before .before .before .before .before) in search needs
 
 add-result : tie.Need-add-result
-add-result c = ?
-
-same-length : tie.Need-same-length
-same-length c = ?
+add-result c = let r = room (c .before .before .before .before .before .before .before .before .before .before .before .before) in search needs
 
 returns : tie.Need-returns
-returns c = ?
+returns c =
+    let a = c .before .before .before .before .before .before .before .before .before .before .before .before .before .before .before .before .args in
+    let d = a .out .now in
+    let h = a .h in
+    let b = c .before .before .before .before .before .before .before .before .before .before .before .before .leading-letter in
+    let x = c .before .before .before .before .before .before .before .before .before .before .write-digits in
+    let y = c .before .before .before .before .before .before .write-fill in
+    let z = c .before .before .write-exponent in
+    let l = hex-length (a .upper) h in
+    let t₁ : List ℕ = b .result ∷ 46 ∷ [] in
+    let t₂ : List ℕ = lettersOf (a .upper) (digitsIn 16 (h .digits) (h .fraction)) in
+    let t₃ : List ℕ = replicate (h .zeros) 48 in
+    let n₂ : length (t₁ ++ t₂) ≡ 2 + x .result = simp (length-append, length-letters, length-digitsIn) (omega (arith, x .ensures .0)) in
+    let n₃ : length ((t₁ ++ t₂) ++ t₃) ≡ 2 + x .result + y .result = length-append (t₁ ++ t₂) t₃ ∙ omega (arith, n₂, y .ensures .0, length-replicate {A = ℕ} (h .zeros) 48) in
+    let e₁ = laid-next d t₁ t₂ _ (x .last .0) 2 (laid-stores d t₁ (omega arith)) refl (x .ensures .1) in
+    let e₂ = laid-next d (t₁ ++ t₂) t₃ _ (y .last .0) (2 + x .result) e₁ n₂ (y .ensures .1) in
+    let e₃ = laid-next d ((t₁ ++ t₂) ++ t₃) (exponentText (a .upper) (h .exponent) (h .bias)) _ (z .last .0) (2 + x .result + y .result) e₂ n₃ (z .ensures .1) in
+    (omega (arith, x .ensures .0, y .ensures .0, z .ensures .0),
+    e₃ ∙ ap (laid d) (hex-written (a .upper) h (b .result) (b .ensures)))
+
+same-length : tie.Need-same-length
+same-length c =
+    let a = c .before .before .before .before .before .before .before .before .before .before .before .before .before .before .before .before .args in
+    ap length (returns c .1) ∙ length-laid (a .out .now) (hexFloatText (a .upper) (a .h)) (c .before .before .before .before .before .before .before .before .before .before .before .before .before .before .before .before .pre)
 
 pub write-hex-float-spec : {M : Type 1} → statement M
 write-hex-float-spec =

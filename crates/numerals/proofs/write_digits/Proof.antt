@@ -19,9 +19,10 @@ abbrev μ-loop : tie.MeasureT-loop
 
 loop-holds : tie.Need-loop-holds Inv-loop μ-loop
 loop-holds c =
-    let a = c .before .args in
-    (omega arith,
-    written-none (digitByte (a .upper) (a .base)) (digitNext (a .base)) (a .out .now) (lettersOf (a .upper) (digitsIn (a .base) (a .n) (a .x))) (a .n) (a .x) (digits-right (a .upper) (a .base) (a .n) (a .x)))
+    let a = c .before .args in (
+      omega arith,
+      written-none (digitByte (a .upper) (a .base)) (digitNext (a .base)) (a .out .now) (lettersOf (a .upper) (digitsIn (a .base) (a .n) (a .x))) (a .n) (a .x) (digits-right (a .upper) (a .base) (a .n) (a .x)),
+    )
 
 sub-i : tie.Need-sub-i Inv-loop μ-loop
 sub-i c = search needs
@@ -44,10 +45,11 @@ loop-less c = search needs
 loop-again : tie.Need-loop-again Inv-loop μ-loop
 loop-again c =
     let l = c .before .before .loop in
-    let a = c .before .before .before .before .args in
-    (omega arith,
-    written-turn (digitByte (a .upper) (a .base)) (digitNext (a .base)) (a .out .now) (lettersOf (a .upper) (digitsIn (a .base) (a .n) (a .x))) (l .out) (l .i) (l .v) (l .v / a .base) (c .digit-letter .result) (omega arith) (omega arith)
-    (sym (c .digit-letter .ensures)) refl (l .inv .1))
+    let a = c .before .before .before .before .args in (
+      omega arith,
+      written-turn (digitByte (a .upper) (a .base)) (digitNext (a .base)) (a .out .now) (lettersOf (a .upper) (digitsIn (a .base) (a .n) (a .x))) (l .out) (l .i) (l .v) (l .v / a .base) (c .digit-letter .result) (omega arith) (omega arith)
+          (sym (c .digit-letter .ensures)) refl (l .inv .1),
+    )
 
 same-length : tie.Need-same-length Inv-loop μ-loop
 same-length c = search needs

@@ -25,10 +25,12 @@ grouped-len-requires c κs = search needs
 loop-holds : tie.Need-loop-holds Inv-loop μ-loop
 loop-holds c =
     let a = c .before .before .args in
-    let n = c .grouped-len .result in
-    (omega arith, omega arith,
-    written-none groupByte groupNext (a .out .now) (grouped (decimal (a .x))) n (a .x, 0)
-    (grouped-right (a .x) ∙ ap (λ (k : ℕ). fromRight groupByte groupNext k (a .x, 0)) (sym (c .grouped-len .ensures))))
+    let n = c .grouped-len .result in (
+      omega arith,
+      omega arith,
+      written-none groupByte groupNext (a .out .now) (grouped (decimal (a .x))) n (a .x, 0)
+          (grouped-right (a .x) ∙ ap (λ (k : ℕ). fromRight groupByte groupNext k (a .x, 0)) (sym (c .grouped-len .ensures))),
+    )
 
 sub-i : tie.Need-sub-i Inv-loop μ-loop
 sub-i c = search needs
@@ -43,9 +45,11 @@ loop-again : tie.Need-loop-again Inv-loop μ-loop
 loop-again c =
     let l = c .before .before .loop in
     let a = c .before .before .before .before .before .args in
-    let e = eq-eqb (l .run) 3 (c .if1 .taken) in
-    (omega arith, omega arith,
-    written-turn groupByte groupNext (a .out .now) (grouped (decimal (a .x))) (l .out) (l .i) (l .v, l .run) (l .v, 0) 44 (omega arith) (omega arith) (simp e) (simp e) (l .inv .2))
+    let e = eq-eqb (l .run) 3 (c .if1 .taken) in (
+      omega arith,
+      omega arith,
+      written-turn groupByte groupNext (a .out .now) (grouped (decimal (a .x))) (l .out) (l .i) (l .v, l .run) (l .v, 0) 44 (omega arith) (omega arith) (simp e) (simp e) (l .inv .2),
+    )
 
 digit-letter-requires : tie.Need-digit-letter-requires Inv-loop μ-loop
 digit-letter-requires c κs = search needs
@@ -63,10 +67,12 @@ loop-again-2 : tie.Need-loop-again-2 Inv-loop μ-loop
 loop-again-2 c =
     let l = c .before .before .before .loop in
     let a = c .before .before .before .before .before .before .args in
-    let e = ne-eqb (l .run) 3 (c .before .if1 .left) in
-    (omega arith, omega arith,
-    written-turn groupByte groupNext (a .out .now) (grouped (decimal (a .x))) (l .out) (l .i) (l .v, l .run) (l .v / 10, l .run + 1) (c .digit-letter .result)
-    (omega arith) (omega arith) (simp e (sym (c .digit-letter .ensures))) (simp e) (l .inv .2))
+    let e = ne-eqb (l .run) 3 (c .before .if1 .left) in (
+      omega arith,
+      omega arith,
+      written-turn groupByte groupNext (a .out .now) (grouped (decimal (a .x))) (l .out) (l .i) (l .v, l .run) (l .v / 10, l .run + 1) (c .digit-letter .result)
+          (omega arith) (omega arith) (simp e (sym (c .digit-letter .ensures))) (simp e) (l .inv .2),
+    )
 
 same-length : tie.Need-same-length Inv-loop μ-loop
 same-length c = search needs
@@ -74,9 +80,10 @@ same-length c = search needs
 returns : tie.Need-returns Inv-loop μ-loop
 returns c =
     let l = c .before .loop in
-    let a = c .before .before .before .before .args in
-    (c .before .before .grouped-len .ensures,
-    written-all groupByte groupNext (a .out .now) (grouped (decimal (a .x))) (l .out) (l .i) (l .v, l .run) (omega arith) (l .inv .2))
+    let a = c .before .before .before .before .args in (
+      c .before .before .grouped-len .ensures,
+      written-all groupByte groupNext (a .out .now) (grouped (decimal (a .x))) (l .out) (l .i) (l .v, l .run) (omega arith) (l .inv .2),
+    )
 
 pub write-grouped-spec : {M : Type 1} → statement M
 write-grouped-spec =

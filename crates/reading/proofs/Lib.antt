@@ -1,0 +1,5 @@
+pub mod Kept
+pub mod Digits
+pub mod Integers
+pub mod Floats
+pub mod Multiples

@@ -1,0 +1,18 @@
+-- 01, "Reading a piece back": "Spaces, commas and `+` are dropped; letters count in either case."
+use Prim.Native.Nat.{ℕ, _+_}
+use mathlib.Core.Bool.{Bool, _&&_, _||_}
+use mathlib.Core.List.{List, [], _∷_}
+use lib.Dec.{leb, eqb}
+use Rattle.writing.specs.Choose.{choose}
+
+abbrev pub isDropped : ℕ → Bool
+isDropped c = eqb c 32 || eqb c 44 || eqb c 43
+
+-- a capital letter as a small one, any other byte as it is
+abbrev pub small : ℕ → ℕ
+small c = choose (leb 65 c && leb c 90) (λ _. c + 32) (λ _. c)
+
+-- The bytes that count.
+unfoldable pub kept : List ℕ → List ℕ
+kept [] = []
+kept (c ∷ cs) = choose (isDropped c) (λ _. kept cs) (λ _. small c ∷ kept cs)

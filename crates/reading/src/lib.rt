@@ -1,0 +1,1 @@
+// Reading a printed piece back: definitions and laws, no code.
