@@ -29,6 +29,7 @@ kept-one x = refl
 pub kept-bounds : (k x : ℕ) → (1 ≤ keptDigits (suc k) x) × (keptDigits (suc k) x ≤ suc k)
 kept-bounds zero x = let e = kept-one x in (omega arith, omega arith)
 kept-bounds (suc k) x =
-    elim (ℕ-discrete (x % 16) 0)
-    [ yes e ↦ let f = simp sub-one at (kept-less (suc (suc k)) x (omega arith) e) in let b = kept-bounds k (x / 16) in (omega arith, omega arith)
-    | no n ↦ let f = kept-all (suc (suc k)) x (omega arith) n in (omega arith, omega arith) ]
+    elim (ℕ-discrete (x % 16) 0) [
+      | yes e ↦ let f = simp sub-one at (kept-less (suc (suc k)) x (omega arith) e) in let b = kept-bounds k (x / 16) in (omega arith, omega arith)
+      | no n ↦ let f = kept-all (suc (suc k)) x (omega arith) n in (omega arith, omega arith)
+    ]

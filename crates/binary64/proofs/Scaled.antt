@@ -81,9 +81,11 @@ module _ (b : ℕ) (p : 1 ≤ b) (h : b < 2 ^ 52) where
       (finite-value (scaledBits b) (scaled-lt b) scaled-finite) scaled-value
 
   pub scaled-normal : (1 ≤ exponentField (scaledBits b)) × (exponentField (scaledBits b) < 2047)
-  scaled-normal =
-      (elim (ℕ-discrete (exponentField (scaledBits b)) 0)
-      [ yes e ↦ absurd (omega (arith, scaled-exact, units-zero (scaledBits b) e, field-bounds (scaledBits b) .1)) | no n ↦ omega arith ], scaled-finite)
+  scaled-normal = (
+    elim (ℕ-discrete (exponentField (scaledBits b)) 0)
+        [ yes e ↦ absurd (omega (arith, scaled-exact, units-zero (scaledBits b) e, field-bounds (scaledBits b) .1)) | no n ↦ omega arith ],
+    scaled-finite,
+  )
 
   -- indeed not far from the least
   pub scaled-small : exponentField (scaledBits b) ≤ 54

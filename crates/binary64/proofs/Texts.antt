@@ -59,9 +59,10 @@ module _ (u : Bool) (e bias : ℕ) where
 
   pub exponent-length : e < 2 ^ 32 → bias < 2 ^ 32 → (1 ≤ length (exponentText u e bias)) × (length (exponentText u e bias) ≤ 12)
   exponent-length f g =
-      elim (decLt e bias)
-      [ yes h ↦ let l = below-length h in let p = ten-places (bias - e) (omega arith) in (omega arith, omega arith)
-      | no n ↦ let l = above-length (omega arith) in let p = ten-places (e - bias) (omega arith) in (omega arith, omega arith) ]
+      elim (decLt e bias) [
+        | yes h ↦ let l = below-length h in let p = ten-places (bias - e) (omega arith) in (omega arith, omega arith)
+        | no n ↦ let l = above-length (omega arith) in let p = ten-places (e - bias) (omega arith) in (omega arith, omega arith)
+      ]
 
 pub hex-length : (u : Bool) (h : HexFloat)
     → length (hexFloatText u h) ≡ 2 + (h .digits + (h .zeros + length (exponentText u (h .exponent) (h .bias))))

@@ -22,6 +22,7 @@ pub field-bounds : (b : ℕ) → (exponentField b < 2048) × (fractionField b < 
 unfolding exponentField fractionField
 field-bounds b = (omega arith, omega arith)
 
+-- the kit reads a pattern by these fields
 by-fields : (b : ℕ) → ofBits binary64 b ≡ ofFields binary64 (negative b) (exponentField b) (fractionField b)
 unfolding ofBits negative exponentField fractionField
 by-fields b = refl
@@ -68,20 +69,23 @@ normal-pos b n = simp (ne-eqb _ _ n) (omega arith)
 pub value-of : (b : ℕ) → b < 2 ^ 64 → Stands (categoryOf b) b
 unfolding categoryOf
 value-of b w =
-    elim (ℕ-discrete (exponentField b) 2047)
-    [ yes e ↦
-        elim (ℕ-discrete (fractionField b) 0)
-        [ yes f ↦ simp (eq-eqb _ _ e, eq-eqb _ _ f) (infinite-is b w e f) | no f ↦ simp (eq-eqb _ _ e, ne-eqb _ _ f) (nan-is b w e f) ]
-    | no n ↦
-        let v = finite-value b w (omega (arith, field-bounds b .0)) in
-        elim (ℕ-discrete (exponentField b) 0)
-        [ yes e ↦
-            elim (ℕ-discrete (fractionField b) 0)
-            [ yes f ↦ simp (ne-eqb _ _ n, eq-eqb _ _ e, eq-eqb _ _ f) (rw (units-zero b e ∙ f) at v)
-            | no f ↦ simp (ne-eqb _ _ n, eq-eqb _ _ e, ne-eqb _ _ f) (v, omega (arith, units-zero b e)) ]
-        | no m ↦ simp (ne-eqb _ _ n, ne-eqb _ _ m) (v, units-pos b (normal-pos b m)) ] ]
+    elim (ℕ-discrete (exponentField b) 2047) [
+      | yes e ↦
+          elim (ℕ-discrete (fractionField b) 0)
+          [ yes f ↦ simp (eq-eqb _ _ e, eq-eqb _ _ f) (infinite-is b w e f) | no f ↦ simp (eq-eqb _ _ e, ne-eqb _ _ f) (nan-is b w e f) ]
+      | no n ↦
+          let v = finite-value b w (omega (arith, field-bounds b .0)) in
+          elim (ℕ-discrete (exponentField b) 0) [
+            | yes e ↦
+                elim (ℕ-discrete (fractionField b) 0) [
+                  | yes f ↦ simp (ne-eqb _ _ n, eq-eqb _ _ e, eq-eqb _ _ f) (rw (units-zero b e ∙ f) at v)
+                  | no f ↦ simp (ne-eqb _ _ n, eq-eqb _ _ e, ne-eqb _ _ f) (v, omega (arith, units-zero b e))
+                ]
+            | no m ↦ simp (ne-eqb _ _ n, ne-eqb _ _ m) (v, units-pos b (normal-pos b m))
+          ]
+    ]
 
--- a finite value has no other exponent field
+-- the exponent field of a finite value is below 2047
 pub finite-exponent : (b : ℕ) (s : Bool) (n d : ℕ) → b < 2 ^ 64 → HasValue (ofBits binary64 b) s n d → exponentField b < 2047
 finite-exponent b s n d w v = elim (ℕ-discrete (exponentField b) 2047) [ yes e ↦ absurd (never e) | no n ↦ omega (arith, field-bounds b .0) ]
   where
@@ -90,7 +94,7 @@ finite-exponent b s n d w v = elim (ℕ-discrete (exponentField b) 2047) [ yes e
         elim (ℕ-discrete (fractionField b) 0)
         [ yes f ↦ subst (λ (x : Float). HasValue x s n d) (infinite-is b w e f) v | no f ↦ subst (λ (x : Float). HasValue x s n d) (nan-is b w e f) v ]
 
--- a finite value is one number of units
+-- a value is one number, over one denominator
 pub one-value : (x : Float) (s t : Bool) (m n d : ℕ) → HasValue x s m d → HasValue x t n d → m ≡ n
 one-value nan s t m n d v w = absurd v
 one-value (inf r) s t m n d v w = absurd v

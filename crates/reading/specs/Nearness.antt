@@ -1,9 +1,12 @@
 -- Exactness and nearness. 01: "judged over whole numbers: the value, the number read and any rival, of either sign, all multiplied by one
 -- power of two that clears their negative exponents."
-use Prim.Native.Nat.{ℕ, suc, _+_, _-_, _*_, _%_, _^_, _≤_, _<_}
+use Prim.Native.Nat.{ℕ, suc, _+_, _-_, _*_, _%_, _^_, _≤_, _<_, max}
 use mathlib.Core.Path.{_≡_}
-use mathlib.Core.Bool.{Bool, true, false}
+use mathlib.Core.Bool.{Bool, true, false, _||_}
+use lib.Dec.{leb, eqb}
 use lib.IntN.{ℤ, pos, negsuc}
+use Rattle.numerals.specs.declared.NumericParam.{NumericParam}
+use Rattle.numerals.specs.declared.NumericParam.the-variants.{Literal, FromArgument}
 use Rattle.binary64.specs.Fields.{negative, units}
 use Rattle.reading.specs.Reading.{Scaled}
 
@@ -50,3 +53,14 @@ pub record Nearest (b p : ℕ) (r : Scaled) : Type 0 where
       → apart (negative b) (valueAt K b) (r .negative) (wholeAt K (r .m) p (r .e)) ≡ apart (negative b) (valueAt K b) t (wholeAt K m p e)
       → ((t ≡ r .negative) × (wholeAt K m p e ≡ wholeAt K (r .m) p (r .e)) → ⊥)
       → r .m % 2 ≡ 0
+
+-- One claim or the other, by a test.
+abbrev pub claim : Bool → Type 0 → Type 0 → Type 0
+claim true A B = A
+claim false A B = B
+
+-- What demand 3 says of %a: "%a is exact for zero, its sign included, and for every finite value without precision or with 13 or more. With
+-- precision 1 to 12 (0 counts as 1)" it is the nearest.
+abbrev pub Denotes : ℕ → NumericParam → Scaled → Type 0
+Denotes b FromArgument r = Exactly b r
+Denotes b (Literal p) r = claim (eqb (units b) 0 || leb 13 p) (Exactly b r) (Nearest b (max p 1) r)

@@ -61,10 +61,11 @@ returns c =
     let b = c .before .before .before .before .before .before .exponent-letter in
     let n = c .before .before .before .before .decimal-len in
     let x = c .before .before .write-digits in
-    let h = c .before .before .before .before .before .if1 .taken in
-    (omega (arith, x .ensures .0, n .ensures, below-length (a .upper) (a .exponent) (a .bias) h),
-    exponent-laid (a .upper) (a .exponent) (a .bias) (45 ∷ []) (a .bias - a .exponent) (below-text (a .upper) (a .exponent) (a .bias) h) (a .out .now) (x .last .0)
-    (b .result) (n .result) (b .ensures) (n .ensures) (c .before .before .before .before .before .before .before .before .pre) (x .ensures .1))
+    let h = c .before .before .before .before .before .if1 .taken in (
+      omega (arith, x .ensures .0, n .ensures, below-length (a .upper) (a .exponent) (a .bias) h),
+      exponent-laid (a .upper) (a .exponent) (a .bias) (45 ∷ []) (a .bias - a .exponent) (below-text (a .upper) (a .exponent) (a .bias) h) (a .out .now) (x .last .0)
+          (b .result) (n .result) (b .ensures) (n .ensures) (c .before .before .before .before .before .before .before .before .pre) (x .ensures .1),
+    )
 
 same-length : tie.Need-same-length
 same-length c =
@@ -104,10 +105,11 @@ returns-2 c =
     let b = c .before .before .before .before .before .before .exponent-letter in
     let n = c .before .before .before .before .decimal-len2 in
     let x = c .before .before .write-digits2 in
-    let h = c .before .before .before .before .before .if1 .left in
-    (omega (arith, x .ensures .0, n .ensures, above-length (a .upper) (a .exponent) (a .bias) h),
-    exponent-laid (a .upper) (a .exponent) (a .bias) [] (a .exponent - a .bias) (above-text (a .upper) (a .exponent) (a .bias) h) (a .out .now) (x .last .0)
-    (b .result) (n .result) (b .ensures) (n .ensures) (c .before .before .before .before .before .before .before .before .pre) (x .ensures .1))
+    let h = c .before .before .before .before .before .if1 .left in (
+      omega (arith, x .ensures .0, n .ensures, above-length (a .upper) (a .exponent) (a .bias) h),
+      exponent-laid (a .upper) (a .exponent) (a .bias) [] (a .exponent - a .bias) (above-text (a .upper) (a .exponent) (a .bias) h) (a .out .now) (x .last .0)
+          (b .result) (n .result) (b .ensures) (n .ensures) (c .before .before .before .before .before .before .before .before .pre) (x .ensures .1),
+    )
 
 same-length-2 : tie.Need-same-length-2
 same-length-2 c =

@@ -25,9 +25,10 @@ leading-letter-requires c κs = search needs
 
 -- there is room for the parts of the text, and the two stores leave it
 room : (c : tie.After-leading-letter)
-    → (2 + (c .before .before .before .before .args .h .digits + (c .before .before .before .before .args .h .zeros + length (exponentText (c .before .before .before .before .args .upper) (c .before .before .before .before .args .h .exponent) (c .before .before .before .before .args .h .bias)))) ≤ length (c .before .before .before .before .args .out .now))
-    × (length (set (set (c .before .before .before .before .args .out .now) 0 (c .leading-letter .result)) 1 46) ≡ length (c .before .before .before .before .args .out .now))
-room c = (omega (arith, hex-length (c .before .before .before .before .args .upper) (c .before .before .before .before .args .h)), simp length-set)
+    → let a = c .before .before .before .before .args in
+    (2 + (a .h .digits + (a .h .zeros + length (exponentText (a .upper) (a .h .exponent) (a .h .bias)))) ≤ length (a .out .now))
+    × (length (set (set (a .out .now) 0 (c .leading-letter .result)) 1 46) ≡ length (a .out .now))
+room c = let a = c .before .before .before .before .args in (omega (arith, hex-length (a .upper) (a .h)), simp length-set)
 
 slice-write-out : tie.Need-slice-write-out
 slice-write-out c = let r = room c in search needs
@@ -97,9 +98,10 @@ returns c =
     let n₃ : length ((t₁ ++ t₂) ++ t₃) ≡ 2 + x .result + y .result = length-append (t₁ ++ t₂) t₃ ∙ omega (arith, n₂, y .ensures .0, length-replicate {A = ℕ} (h .zeros) 48) in
     let e₁ = laid-next d t₁ t₂ _ (x .last .0) 2 (laid-stores d t₁ (omega arith)) refl (x .ensures .1) in
     let e₂ = laid-next d (t₁ ++ t₂) t₃ _ (y .last .0) (2 + x .result) e₁ n₂ (y .ensures .1) in
-    let e₃ = laid-next d ((t₁ ++ t₂) ++ t₃) (exponentText (a .upper) (h .exponent) (h .bias)) _ (z .last .0) (2 + x .result + y .result) e₂ n₃ (z .ensures .1) in
-    (omega (arith, x .ensures .0, y .ensures .0, z .ensures .0),
-    e₃ ∙ ap (laid d) (hex-written (a .upper) h (b .result) (b .ensures)))
+    let e₃ = laid-next d ((t₁ ++ t₂) ++ t₃) (exponentText (a .upper) (h .exponent) (h .bias)) _ (z .last .0) (2 + x .result + y .result) e₂ n₃ (z .ensures .1) in (
+      omega (arith, x .ensures .0, y .ensures .0, z .ensures .0),
+      e₃ ∙ ap (laid d) (hex-written (a .upper) h (b .result) (b .ensures)),
+    )
 
 same-length : tie.Need-same-length
 same-length c =
