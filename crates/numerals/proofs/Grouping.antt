@@ -14,7 +14,7 @@ use Rattle.writing.specs.Choose.{choose}
 use Rattle.writing.proofs.FromRight.{fromRight}
 use Rattle.numerals.specs.Digits.{digitsIn, places, digits, letterOf, lettersOf, numeral, decimal}
 use Rattle.numerals.specs.Grouping.{commaAfter, grouped}
-use Rattle.numerals.proofs.Backwards.{right-more}
+use Rattle.writing.proofs.Backwards.{right-more}
 use Rattle.numerals.proofs.Digits.{letters-append, length-numeral}
 
 -- a comma, or none

@@ -1,5 +1,4 @@
 pub mod Digits
 pub mod Integers
-pub mod Backwards
 pub mod Grouping
 pub mod Params

@@ -53,7 +53,7 @@ cut-letters b (d ∷ ds) rest out same l = simp (letter-is-not b d (l .0) out, c
 -- W before the point, F behind it, X behind `p`
 read-parts : (s : Bool) (W F X : List ℕ) (e : ℤ) → Below 16 W → Below 16 F → 0 < length W → 0 < length F → withMinus X ≡ some e
     → readMagnitude s (48 ∷ 120 ∷ (lettersOf false W ++ (46 ∷ (lettersOf false F ++ (112 ∷ X)))))
-      ≡ some (record { negative = s; m = numberFrom 16 (numberOf 16 W) F; f = length F; e = e })
+    ≡ some (record { negative = s; m = numberFrom 16 (numberOf 16 W) F; f = length F; e = e })
 unfolding readMagnitude afterPrefix
 read-parts s W F X e w f nw nf x =
     simp (
@@ -63,7 +63,8 @@ read-parts s W F X e w f nw nf x =
       whole-read 16 F (lit≤ tt) f nf,
       digits-read 16 (numberOf 16 W) F (lit≤ tt) f,
       x,
-      length-letters)
+      length-letters,
+    )
 
 -- the exponent: its letter counts as `p`, and behind it stands the number
 abbrev exponentDigits : Bool → ℕ → ℕ → List ℕ
@@ -91,6 +92,9 @@ exponent-read e bias = elim (decLt e bias) [ yes p ↦ below p | no n ↦ above 
     above : bias ≤ e → withMinus (exponentDigits (ltb e bias) e bias) ≡ some (subℕ e bias)
     above p = simp (le-ltb e bias p) (unmarked (e - bias) (digits 10 (e - bias)) (digits-of 10 (e - bias) (lit≤ tt)))
 
+abbrev exponentOf : HexFloat → List ℕ
+exponentOf h = exponentDigits (ltb (h .exponent) (h .bias)) (h .exponent) (h .bias)
+
 -- the digits behind the point
 abbrev fractionDigits : HexFloat → List ℕ
 fractionDigits h = digitsIn 16 (h .digits) (h .fraction) ++ replicate (h .zeros) 0
@@ -112,9 +116,9 @@ fraction-kept u h rest =
     kept-append (lettersOf u ds) (replicate (h .zeros) 48 ++ rest)
     ∙ ap (λ (l : List ℕ). l ++ kept (replicate (h .zeros) 48 ++ rest)) (kept-letters u ds (below-digitsIn 16 (h .digits) (h .fraction) (lit< tt)))
     ∙ ap (λ (l : List ℕ). lettersOf false ds ++ l)
-        (kept-append (replicate (h .zeros) 48) rest
-        ∙ ap (λ (l : List ℕ). kept l ++ kept rest) (zero-letters false (h .zeros))
-        ∙ ap (λ (l : List ℕ). l ++ kept rest) (kept-letters false zs (below-zeros 16 (h .zeros) (lit< tt))))
+    (kept-append (replicate (h .zeros) 48) rest
+    ∙ ap (λ (l : List ℕ). kept l ++ kept rest) (zero-letters false (h .zeros))
+    ∙ ap (λ (l : List ℕ). l ++ kept rest) (kept-letters false zs (below-zeros 16 (h .zeros) (lit< tt))))
     ∙ sym (append-assoc (lettersOf false ds) (lettersOf false zs) (kept rest))
     ∙ ap (λ (l : List ℕ). l ++ kept rest) (sym (letters-append false ds zs))
 
@@ -122,12 +126,12 @@ fraction-kept u h rest =
 abbrev valueText : HexFloat → List ℕ → List ℕ
 valueText h X = lettersOf false (leadingDigit (h .leading) ∷ []) ++ (46 ∷ (lettersOf false (fractionDigits h) ++ (112 ∷ X)))
 
-kept-value : (u : Bool) (h : HexFloat) → kept (hexFloatText u h) ≡ valueText h (exponentDigits (ltb (h .exponent) (h .bias)) (h .exponent) (h .bias))
+kept-value : (u : Bool) (h : HexFloat) → kept (hexFloatText u h) ≡ valueText h (exponentOf h)
 unfolding hexFloatText
 kept-value u h =
     leading-kept (h .leading) _
     ∙ ap (λ (l : List ℕ). lettersOf false (leadingDigit (h .leading) ∷ []) ++ (46 ∷ l))
-        (fraction-kept u h (exponentText u (h .exponent) (h .bias)) ∙ ap (λ (l : List ℕ). lettersOf false (fractionDigits h) ++ l) (kept-exponent u (h .exponent) (h .bias)))
+    (fraction-kept u h (exponentText u (h .exponent) (h .bias)) ∙ ap (λ (l : List ℕ). lettersOf false (fractionDigits h) ++ l) (kept-exponent u (h .exponent) (h .bias)))
 
 lead-below : (t : Bool) → leadingDigit t < 16
 lead-below false = lit< tt
@@ -136,7 +140,7 @@ lead-below true = lit< tt
 -- The whole number of all digits: leading zeros, the digit before the point, the digits and zeros behind it.
 number-is : (z : ℕ) (h : HexFloat) → h .fraction < 16 ^ h .digits
     → numberFrom 16 (numberOf 16 (replicate z 0 ++ (leadingDigit (h .leading) ∷ []))) (fractionDigits h)
-      ≡ (leadingDigit (h .leading) * 16 ^ h .digits + h .fraction) * 16 ^ h .zeros
+    ≡ (leadingDigit (h .leading) * 16 ^ h .digits + h .fraction) * 16 ^ h .zeros
 unfolding numberOf numberFrom
 number-is z h k =
     let d = leadingDigit (h .leading) in
@@ -148,9 +152,9 @@ number-is z h k =
 
 -- What is read of the value's text behind a prefix and z zeros.
 magnitude-back : (s : Bool) (z : ℕ) (h : HexFloat) → 1 ≤ h .digits → h .fraction < 16 ^ h .digits
-    → readMagnitude s (48 ∷ 120 ∷ (lettersOf false (replicate z 0) ++ valueText h (exponentDigits (ltb (h .exponent) (h .bias)) (h .exponent) (h .bias)))) ≡ some (scaledOf s h)
+    → readMagnitude s (48 ∷ 120 ∷ (lettersOf false (replicate z 0) ++ valueText h (exponentOf h))) ≡ some (scaledOf s h)
 magnitude-back s z h one k =
-    let X = exponentDigits (ltb (h .exponent) (h .bias)) (h .exponent) (h .bias) in
+    let X = exponentOf h in
     let W = replicate z 0 ++ (leadingDigit (h .leading) ∷ []) in
     let F = fractionDigits h in
     let w : Below 16 W = below-append 16 (replicate z 0) (leadingDigit (h .leading) ∷ []) (below-zeros 16 z (lit< tt)) (lead-below (h .leading), tt) in
@@ -165,14 +169,14 @@ pub float-back : (a : ℕ) (m : Mark) (v : Bool) (z : ℕ) (u : Bool) (h : HexFl
     → readFloat (kept (spaced a m (hexPrefix v) z (hexFloatText u h) i j)) ≡ some (scaledOf (isMinus m) h)
 unfolding kept readFloat
 float-back a m v z u h i j c one k =
-    let text = valueText h (exponentDigits (ltb (h .exponent) (h .bias)) (h .exponent) (h .bias)) in
+    let text = valueText h (exponentOf h) in
     let none : byteText (closingByte m) ≡ [] = ap byteText c in
     let all : kept (spaced a m (hexPrefix v) z (hexFloatText u h) i j) ≡ kept (marks m (hexPrefix v)) ++ (lettersOf false (replicate z 0) ++ text) =
     kept-spaced a m (hexPrefix v) z (hexFloatText u h) text i j (kept-value u h) ∙ simp (none, append-nil) in
     ap readFloat all ∙ by-mark m v c
   where
     by-mark : (m : Mark) (v : Bool) → closingByte m ≡ 0
-        → readFloat (kept (marks m (hexPrefix v)) ++ (lettersOf false (replicate z 0) ++ valueText h (exponentDigits (ltb (h .exponent) (h .bias)) (h .exponent) (h .bias)))) ≡ some (scaledOf (isMinus m) h)
+        → readFloat (kept (marks m (hexPrefix v)) ++ (lettersOf false (replicate z 0) ++ valueText h (exponentOf h))) ≡ some (scaledOf (isMinus m) h)
     by-mark NoMark false c = magnitude-back false z h one k
     by-mark NoMark true c = magnitude-back false z h one k
     by-mark Plus false c = magnitude-back false z h one k

@@ -54,6 +54,7 @@ kept-whole (suc k) x = elim (decLt (x % 16) 1) [ yes p ↦ less (omega arith) (k
         ∙ sym (mul-assoc q (16 ^ j) 16)
         ∙ ap (λ (w : ℕ). w * 16) ih
         ∙ omega arith)
+
     all : 1 ≤ x % 16 → x / 16 ^ (suc (suc k) - keptDigits (suc (suc k)) x) * 16 ^ (suc (suc k) - keptDigits (suc (suc k)) x) ≡ x
     all n =
         let e : suc (suc k) - suc (suc k) ≡ 0 = omega arith in
@@ -86,12 +87,12 @@ pub well-formed : (b : ℕ) (p : NumericParam) → WellFormed (hexFloatOf b p)
 unfolding hexFloatOf
 well-formed b p =
     elim (decLt (exponentField b) 1) [
-      yes k ↦ simp (eq-eqb (exponentField b) 0 (omega arith))
-      (elim (decLt (fractionField b) 1) [
-        yes z ↦ simp (eq-eqb (fractionField b) 0 (omega arith)) (record { one-digit = lit≤ tt; below = lit< tt })
-      | no n ↦ simp (ne-eqb (fractionField b) 0 (λ e. omega arith)) (subnormal p)
-      ])
-    | no n ↦ simp (ne-eqb (exponentField b) 0 (λ e. omega arith)) (well-normal (fractionField b) (exponentField b) 1023 (field-bounds b .1) p)
+      | yes k ↦ simp (eq-eqb (exponentField b) 0 (omega arith))
+          (elim (decLt (fractionField b) 1) [
+            | yes z ↦ simp (eq-eqb (fractionField b) 0 (omega arith)) (record { one-digit = lit≤ tt; below = lit< tt })
+            | no n ↦ simp (ne-eqb (fractionField b) 0 (λ e. omega arith)) (subnormal p)
+          ])
+      | no n ↦ simp (ne-eqb (exponentField b) 0 (λ e. omega arith)) (well-normal (fractionField b) (exponentField b) 1023 (field-bounds b .1) p)
     ]
   where
     unscaled : WellFormed (subnormalForm (fractionField b))
@@ -101,8 +102,8 @@ well-formed b p =
     subnormal FromArgument = unscaled
     subnormal (Literal p) =
         elim (decLt p 13) [
-          yes k ↦ simp (lt-ltb p 13 k) (well-normal (fractionField (scaledBits (fractionField b))) (exponentField (scaledBits (fractionField b))) (1023 + 54) (field-bounds (scaledBits (fractionField b)) .1) (Literal p))
-        | no n ↦ simp (le-ltb p 13 (omega arith)) unscaled
+          | yes k ↦ simp (lt-ltb p 13 k) (well-normal (fractionField (scaledBits (fractionField b))) (exponentField (scaledBits (fractionField b))) (1023 + 54) (field-bounds (scaledBits (fractionField b)) .1) (Literal p))
+          | no n ↦ simp (le-ltb p 13 (omega arith)) unscaled
         ]
 
 -- The significand 2 ^ 52 + f, of 13 digits behind the point, as the parts write it: m * 16 ^ 13 is it times 16 to the number of digits.

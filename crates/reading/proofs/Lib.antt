@@ -6,3 +6,6 @@ pub mod Multiples
 pub mod Exact
 pub mod Forms
 pub mod Nearest
+pub mod Denotes
+pub mod Pieces
+pub mod Examples

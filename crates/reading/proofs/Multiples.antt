@@ -40,6 +40,7 @@ module _ (X U : ℕ) (U-pos : 0 < U) where
     where
       even : X / U % 2 ≡ 0 → (X ≡ X / U * U + X % U) × (X % U < U) → Half X U (X / U + X / U % 2)
       even e g = rw (e, add-zero) (record { within = omega arith; tie = λ _. e })
+
       odd : X / U % 2 ≡ 1 → (X ≡ X / U * U + X % U) × (X % U < U) → (X / U + 1) * U ≡ X / U * U + U → Half X U (X / U + X / U % 2)
       odd e g n = rw e (record { within = omega arith; tie = λ _. omega arith })
 
@@ -47,10 +48,10 @@ module _ (X U : ℕ) (U-pos : 0 < U) where
   unfolding nearestTo
   nearest-half =
       elim (decLt (X % U * 2) U) [
-        yes p ↦ simp (lt-ltb (X % U * 2) U p) (half-low p)
-      | no n ↦ elim (decLt U (X % U * 2)) [
-          yes p ↦ simp (le-ltb (X % U * 2) U (omega arith), lt-ltb U (X % U * 2) p) (half-high p)
-        | no m ↦ simp (le-ltb (X % U * 2) U (omega arith), le-ltb U (X % U * 2) (omega arith)) (half-tie (omega arith))
+        | yes p ↦ simp (lt-ltb (X % U * 2) U p) (half-low p)
+        | no n ↦ elim (decLt U (X % U * 2)) [
+          | yes p ↦ simp (le-ltb (X % U * 2) U (omega arith), lt-ltb U (X % U * 2) p) (half-high p)
+          | no m ↦ simp (le-ltb (X % U * 2) U (omega arith), le-ltb U (X % U * 2) (omega arith)) (half-tie (omega arith))
         ]
       ]
 
@@ -90,8 +91,10 @@ near-multiple X U r c h = elim (decLt c r) [ yes p ↦ under (beyond U c r p) | 
   where
     under : c * U + U ≤ r * U → dist X (r * U) ≤ dist X (c * U)
     under k = let w = h .within in omega arith
+
     over : r * U + U ≤ c * U → dist X (r * U) ≤ dist X (c * U)
     over k = let w = h .within in omega arith
+
     same : r ≡ c → dist X (r * U) ≤ dist X (c * U)
     same e = rw e (omega arith)
 
@@ -100,6 +103,7 @@ tie-even X U r c h e n = elim (decLt c r) [ yes p ↦ under (beyond U c r p) | n
   where
     under : c * U + U ≤ r * U → r % 2 ≡ 0
     under k = let w = h .within in h .tie (omega arith)
+
     over : r * U + U ≤ c * U → r % 2 ≡ 0
     over k = let w = h .within in h .tie (omega arith)
 
@@ -126,15 +130,15 @@ module _ (p k X r : ℕ) (bottom : 16 ^ p * 2 ^ k ≤ X) (h : Half X (2 ^ k) r) 
   pub near-rival : dist X (r * 2 ^ k) ≤ dist X (m * 2 ^ t)
   near-rival =
       elim (decLt t k) [
-        yes g ↦ le-of-lt (farther X _ _ _ (below-all g) bottom (near-multiple X (2 ^ k) r (16 ^ p) h))
-      | no n ↦ rw (multiple (omega arith)) (near-multiple X (2 ^ k) r (m * 2 ^ (t - k)) h)
+        | yes g ↦ le-of-lt (farther X _ _ _ (below-all g) bottom (near-multiple X (2 ^ k) r (16 ^ p) h))
+        | no n ↦ rw (multiple (omega arith)) (near-multiple X (2 ^ k) r (m * 2 ^ (t - k)) h)
       ]
 
   pub tie-rival : dist X (r * 2 ^ k) ≡ dist X (m * 2 ^ t) → (m * 2 ^ t ≡ r * 2 ^ k → ⊥) → r % 2 ≡ 0
   tie-rival e n =
       elim (decLt t k) [
-        yes g ↦ absurd (ne-of-lt (farther X _ _ _ (below-all g) bottom (near-multiple X (2 ^ k) r (16 ^ p) h)) e)
-      | no a ↦ over (multiple (omega arith))
+        | yes g ↦ absurd (ne-of-lt (farther X _ _ _ (below-all g) bottom (near-multiple X (2 ^ k) r (16 ^ p) h)) e)
+        | no a ↦ over (multiple (omega arith))
       ]
     where
       over : m * 2 ^ t ≡ m * 2 ^ (t - k) * 2 ^ k → r % 2 ≡ 0

@@ -74,6 +74,28 @@ module _ (s t : Bool) (X A Y j : ℕ) where
 
 -- ---- the rounded value
 
+-- The whole number of units of the last of p digits nearest to the significand 2 ^ 52 + f.
+abbrev nearestWhole : ℕ → ℕ → ℕ
+nearestWhole f p = 16 ^ p + nearestTo f (16 ^ (13 - p))
+
+-- A rounded value in parts, and what is read of it. The value was scaled by 2 ^ c before.
+abbrev parts : ℕ → ℕ → ℕ → ℕ → HexFloat
+parts f E c p = carried p (nearestTo f (16 ^ (13 - p))) E (1023 + c)
+
+abbrev readOf : Bool → ℕ → ℕ → ℕ → ℕ → Scaled
+readOf s f E c p = scaledOf s (parts f E c p)
+
+-- The number read at a scale.
+abbrev readAt : ℕ → Bool → ℕ → ℕ → ℕ → ℕ → ℕ
+readAt K s f E c p = wholeAt K (readOf s f E c p .m) p (readOf s f E c p .e)
+
+-- The power of two of the significand's last place at the scale K, and of the last digit kept.
+abbrev unit : ℕ → ℕ → ℕ → ℕ
+unit K E c = K + E - (1075 + c)
+
+abbrev digitUnit : ℕ → ℕ → ℕ → ℕ → ℕ
+digitUnit K E c p = 52 - 4 * p + unit K E c
+
 even-power : (p : ℕ) → 1 ≤ p → 16 ^ p % 2 ≡ 0
 even-power zero h = absurd (omega arith)
 even-power (suc p) h = rw (pow-suc 16 p) (omega arith)
@@ -82,7 +104,7 @@ split-power : (p : ℕ) → p < 13 → 2 ^ 52 ≡ 16 ^ p * 16 ^ (13 - p)
 split-power p k = let d : 13 ≡ p + (13 - p) = omega arith in ap (λ (i : ℕ). 16 ^ i) d ∙ pow-add 16 p (13 - p)
 
 -- The significand 2 ^ 52 + f with the multiple of 16 ^ (13 - p) nearest to it.
-whole-half : (f p : ℕ) → 1 ≤ p → p < 13 → Half (2 ^ 52 + f) (16 ^ (13 - p)) (16 ^ p + nearestTo f (16 ^ (13 - p)))
+whole-half : (f p : ℕ) → 1 ≤ p → p < 13 → Half (2 ^ 52 + f) (16 ^ (13 - p)) (nearestWhole f p)
 whole-half f p h k =
     rw (split-power p k) (half-shift (16 ^ p) f (16 ^ (13 - p)) (nearestTo f (16 ^ (13 - p))) (even-power p h) (nearest-half f (16 ^ (13 - p)) (sixteen-pos (13 - p))))
 
@@ -96,10 +118,6 @@ carry-at-most f p h k = no-more (16 ^ (13 - p)) (nearestTo f (16 ^ (13 - p))) (n
         far : 16 ^ p * u + u ≤ n * u → ⊥
         far a = omega arith
 
--- The scale: w is the power of two of the significand's last place, and 52 - 4p + w that of the last place kept.
-abbrev unit : ℕ → ℕ → ℕ → ℕ
-unit K E c = K + E - (1075 + c)
-
 value-is : (b f E c K : ℕ) → 1 ≤ E → 1129 ≤ K → c ≤ 54 → units b * 2 ^ c ≡ (2 ^ 52 + f) * 2 ^ (E - 1) → valueAt K b ≡ (2 ^ 52 + f) * 2 ^ unit K E c
 unfolding valueAt
 value-is b f E c K hE hK hc hu =
@@ -112,9 +130,9 @@ value-is b f E c K hE hK hc hu =
     ∙ sym (powers S (unit K E c) c))
 
 read-is : (f E c K p : ℕ) (s : Bool) → f < 2 ^ 52 → 1 ≤ E → 1129 ≤ K → c ≤ 54 → p < 13
-    → Clears K p (scaledOf s (carried p (nearestTo f (16 ^ (13 - p))) E (1023 + c)) .e)
-    → wholeAt K (scaledOf s (carried p (nearestTo f (16 ^ (13 - p))) E (1023 + c)) .m) p (scaledOf s (carried p (nearestTo f (16 ^ (13 - p))) E (1023 + c)) .e)
-      ≡ (16 ^ p + nearestTo f (16 ^ (13 - p))) * 2 ^ (52 - 4 * p + unit K E c)
+    → Clears K p (readOf s f E c p .e)
+    → readAt K s f E c p
+    ≡ nearestWhole f p * 2 ^ digitUnit K E c p
 unfolding wholeAt
 read-is f E c K p s hf hE hK hc hp = go (nearestTo f (16 ^ (13 - p))) (carry-at-most f p hf hp)
   where
@@ -123,17 +141,18 @@ read-is f E c K p s hf hE hK hc hp = go (nearestTo f (16 ^ (13 - p))) (carry-at-
     power e cl = raised-sub K p e (1023 + c) cl
 
     go : (r : ℕ) → r ≤ 16 ^ p → Clears K p (scaledOf s (carried p r E (1023 + c)) .e)
-        → scaledOf s (carried p r E (1023 + c)) .m * 2 ^ (raised K (scaledOf s (carried p r E (1023 + c)) .e) - 4 * p) ≡ (16 ^ p + r) * 2 ^ (52 - 4 * p + unit K E c)
+        → scaledOf s (carried p r E (1023 + c)) .m * 2 ^ (raised K (scaledOf s (carried p r E (1023 + c)) .e) - 4 * p) ≡ (16 ^ p + r) * 2 ^ digitUnit K E c p
     go r h = elim (decLt r (16 ^ p)) [ yes k ↦ simp (lt-ltb r (16 ^ p) k) (kept r) | no n ↦ simp (le-ltb r (16 ^ p) (omega arith)) (carry r (omega arith)) ]
       where
-        kept : (r : ℕ) → Clears K p (subℕ E (1023 + c)) → (1 * 16 ^ p + r) * 1 * 2 ^ (raised K (subℕ E (1023 + c)) - 4 * p) ≡ (16 ^ p + r) * 2 ^ (52 - 4 * p + unit K E c)
+        kept : (r : ℕ) → Clears K p (subℕ E (1023 + c)) → (1 * 16 ^ p + r) * 1 * 2 ^ (raised K (subℕ E (1023 + c)) - 4 * p) ≡ (16 ^ p + r) * 2 ^ digitUnit K E c p
         kept r cl =
-            let q : raised K (subℕ E (1023 + c)) - 4 * p ≡ 52 - 4 * p + unit K E c = omega (arith, power E cl) in
+            let q : raised K (subℕ E (1023 + c)) - 4 * p ≡ digitUnit K E c p = omega (arith, power E cl) in
             ap (λ (n : ℕ). n * 2 ^ (raised K (subℕ E (1023 + c)) - 4 * p)) (mul-one (1 * 16 ^ p + r) ∙ ap (λ (n : ℕ). n + r) (one-mul (16 ^ p)))
-            ∙ same-power (16 ^ p + r) (raised K (subℕ E (1023 + c)) - 4 * p) (52 - 4 * p + unit K E c) q
-        carry : (r : ℕ) → r ≡ 16 ^ p → Clears K p (subℕ (E + 1) (1023 + c)) → (1 * 16 ^ p + 0) * 1 * 2 ^ (raised K (subℕ (E + 1) (1023 + c)) - 4 * p) ≡ (16 ^ p + r) * 2 ^ (52 - 4 * p + unit K E c)
+            ∙ same-power (16 ^ p + r) (raised K (subℕ E (1023 + c)) - 4 * p) (digitUnit K E c p) q
+
+        carry : (r : ℕ) → r ≡ 16 ^ p → Clears K p (subℕ (E + 1) (1023 + c)) → (1 * 16 ^ p + 0) * 1 * 2 ^ (raised K (subℕ (E + 1) (1023 + c)) - 4 * p) ≡ (16 ^ p + r) * 2 ^ digitUnit K E c p
         carry r e cl =
-            let k = 52 - 4 * p + unit K E c in
+            let k = digitUnit K E c p in
             let q : raised K (subℕ (E + 1) (1023 + c)) - 4 * p ≡ k + 1 = omega (arith, power (E + 1) cl) in
             ap (λ (n : ℕ). n * 2 ^ (raised K (subℕ (E + 1) (1023 + c)) - 4 * p)) (mul-one (1 * 16 ^ p + 0) ∙ add-zero (1 * 16 ^ p) ∙ one-mul (16 ^ p))
             ∙ same-power (16 ^ p) (raised K (subℕ (E + 1) (1023 + c)) - 4 * p) (k + 1) q
@@ -141,31 +160,27 @@ read-is f E c K p s hf hE hK hc hp = go (nearestTo f (16 ^ (13 - p))) (carry-at-
             ∙ omega (arith, add-mul (16 ^ p) (16 ^ p) (2 ^ k))
             ∙ ap (λ (n : ℕ). (16 ^ p + n) * 2 ^ k) (sym e)
 
--- The parts of a rounded value, and what is read of them.
-abbrev parts : ℕ → ℕ → ℕ → ℕ → HexFloat
-parts f E c p = carried p (nearestTo f (16 ^ (13 - p))) E (1023 + c)
-
 -- Everything at the scale K + 64: there the significand's last place is whole.
 module _ (b f E c p : ℕ) (hf : f < 2 ^ 52) (hE : 1 ≤ E) (hc : c ≤ 54) (h1 : 1 ≤ p) (hp : p < 13) (hu : units b * 2 ^ c ≡ (2 ^ 52 + f) * 2 ^ (E - 1))
-    (s : Bool) (K : ℕ) (hK : 1074 ≤ K) (cl : Clears K p (scaledOf s (parts f E c p) .e)) where
+    (s : Bool) (K : ℕ) (hK : 1074 ≤ K) (cl : Clears K p (readOf s f E c p .e)) where
   large-value : valueAt K b * 2 ^ 64 ≡ (2 ^ 52 + f) * 2 ^ unit (K + 64) E c
   large-value = sym (value-more K 64 b hK) ∙ value-is b f E c (K + 64) hE (omega arith) hc hu
 
-  large-read : wholeAt K (scaledOf s (parts f E c p) .m) p (scaledOf s (parts f E c p) .e) * 2 ^ 64 ≡ (16 ^ p + nearestTo f (16 ^ (13 - p))) * 2 ^ (52 - 4 * p + unit (K + 64) E c)
+  large-read : readAt K s f E c p * 2 ^ 64 ≡ nearestWhole f p * 2 ^ digitUnit (K + 64) E c p
   large-read =
-      sym (whole-more K 64 (scaledOf s (parts f E c p) .m) p (scaledOf s (parts f E c p) .e) cl)
-      ∙ read-is f E c (K + 64) p s hf hE (omega arith) hc hp (clears-more K 64 p (scaledOf s (parts f E c p) .e) cl)
+      sym (whole-more K 64 (readOf s f E c p .m) p (readOf s f E c p .e) cl)
+      ∙ read-is f E c (K + 64) p s hf hE (omega arith) hc hp (clears-more K 64 p (readOf s f E c p .e) cl)
 
-  last-place : 16 ^ (13 - p) * 2 ^ unit (K + 64) E c ≡ 2 ^ (52 - 4 * p + unit (K + 64) E c)
+  last-place : 16 ^ (13 - p) * 2 ^ unit (K + 64) E c ≡ 2 ^ digitUnit (K + 64) E c p
   last-place = ap (λ (n : ℕ). n * 2 ^ unit (K + 64) E c) (sym (sixteens-left p (omega arith))) ∙ sym (pow-add 2 (52 - 4 * p) (unit (K + 64) E c))
 
-  bottom : 16 ^ p * 2 ^ (52 - 4 * p + unit (K + 64) E c) ≤ (2 ^ 52 + f) * 2 ^ unit (K + 64) E c
+  bottom : 16 ^ p * 2 ^ digitUnit (K + 64) E c p ≤ (2 ^ 52 + f) * 2 ^ unit (K + 64) E c
   bottom =
       rw (← last-place, ← mul-assoc (16 ^ p) (16 ^ (13 - p)) (2 ^ unit (K + 64) E c), ← split-power p hp)
       (mul-le-mul-right (2 ^ unit (K + 64) E c) (omega arith))
 
-  half : Half ((2 ^ 52 + f) * 2 ^ unit (K + 64) E c) (2 ^ (52 - 4 * p + unit (K + 64) E c)) (16 ^ p + nearestTo f (16 ^ (13 - p)))
-  half = rw (← last-place) (half-scale (2 ^ 52 + f) (16 ^ (13 - p)) (16 ^ p + nearestTo f (16 ^ (13 - p))) (2 ^ unit (K + 64) E c) (pow-pos (unit (K + 64) E c)) (whole-half f p h1 hp))
+  half : Half ((2 ^ 52 + f) * 2 ^ unit (K + 64) E c) (2 ^ digitUnit (K + 64) E c p) (nearestWhole f p)
+  half = rw (← last-place) (half-scale (2 ^ 52 + f) (16 ^ (13 - p)) (nearestWhole f p) (2 ^ unit (K + 64) E c) (pow-pos (unit (K + 64) E c)) (whole-half f p h1 hp))
 
   -- against a rival
   module _ (t : Bool) (m : ℕ) (e : ℤ) (low : 16 ^ p ≤ m) (high : m < 2 * 16 ^ p) (cr : Clears K p e) where
@@ -173,21 +188,21 @@ module _ (b f E c p : ℕ) (hf : f < 2 ^ 52) (hE : 1 ≤ E) (hc : c ≤ 54) (h1 
     unfolding wholeAt
     large-rival = sym (whole-more K 64 m p e cr)
 
-    farther-signed : dist (valueAt K b * 2 ^ 64) (wholeAt K (scaledOf s (parts f E c p) .m) p (scaledOf s (parts f E c p) .e) * 2 ^ 64) < valueAt K b * 2 ^ 64 + wholeAt K m p e * 2 ^ 64
-    farther-signed = rw (large-value, large-read, large-rival) (other-sign p (52 - 4 * p + unit (K + 64) E c) ((2 ^ 52 + f) * 2 ^ unit (K + 64) E c) (16 ^ p + nearestTo f (16 ^ (13 - p))) bottom half m (raised (K + 64) e - 4 * p) low high)
+    farther-signed : dist (valueAt K b * 2 ^ 64) (readAt K s f E c p * 2 ^ 64) < valueAt K b * 2 ^ 64 + wholeAt K m p e * 2 ^ 64
+    farther-signed = rw (large-value, large-read, large-rival) (other-sign p (digitUnit (K + 64) E c p) ((2 ^ 52 + f) * 2 ^ unit (K + 64) E c) (nearestWhole f p) bottom half m (raised (K + 64) e - 4 * p) low high)
 
-    near : apart s (valueAt K b) s (wholeAt K (scaledOf s (parts f E c p) .m) p (scaledOf s (parts f E c p) .e)) ≤ apart s (valueAt K b) t (wholeAt K m p e)
+    near : apart s (valueAt K b) s (readAt K s f E c p) ≤ apart s (valueAt K b) t (wholeAt K m p e)
     near =
-        near-back s t (valueAt K b) (wholeAt K (scaledOf s (parts f E c p) .m) p (scaledOf s (parts f E c p) .e)) (wholeAt K m p e) 64
-        (rw (large-value, large-read, large-rival) (near-rival p (52 - 4 * p + unit (K + 64) E c) ((2 ^ 52 + f) * 2 ^ unit (K + 64) E c) (16 ^ p + nearestTo f (16 ^ (13 - p))) bottom half m (raised (K + 64) e - 4 * p) low high))
+        near-back s t (valueAt K b) (readAt K s f E c p) (wholeAt K m p e) 64
+        (rw (large-value, large-read, large-rival) (near-rival p (digitUnit (K + 64) E c p) ((2 ^ 52 + f) * 2 ^ unit (K + 64) E c) (nearestWhole f p) bottom half m (raised (K + 64) e - 4 * p) low high))
         farther-signed
 
-    even : apart s (valueAt K b) s (wholeAt K (scaledOf s (parts f E c p) .m) p (scaledOf s (parts f E c p) .e)) ≡ apart s (valueAt K b) t (wholeAt K m p e)
-        → ((t ≡ s) × (wholeAt K m p e ≡ wholeAt K (scaledOf s (parts f E c p) .m) p (scaledOf s (parts f E c p) .e)) → ⊥)
-        → (16 ^ p + nearestTo f (16 ^ (13 - p))) % 2 ≡ 0
+    even : apart s (valueAt K b) s (readAt K s f E c p) ≡ apart s (valueAt K b) t (wholeAt K m p e)
+        → ((t ≡ s) × (wholeAt K m p e ≡ readAt K s f E c p) → ⊥)
+        → nearestWhole f p % 2 ≡ 0
     even =
-        tie-back s t (valueAt K b) (wholeAt K (scaledOf s (parts f E c p) .m) p (scaledOf s (parts f E c p) .e)) (wholeAt K m p e) 64
-        (rw (large-value, large-read, large-rival) (tie-rival p (52 - 4 * p + unit (K + 64) E c) ((2 ^ 52 + f) * 2 ^ unit (K + 64) E c) (16 ^ p + nearestTo f (16 ^ (13 - p))) bottom half m (raised (K + 64) e - 4 * p) low high))
+        tie-back s t (valueAt K b) (readAt K s f E c p) (wholeAt K m p e) 64
+        (rw (large-value, large-read, large-rival) (tie-rival p (digitUnit (K + 64) E c p) ((2 ^ 52 + f) * 2 ^ unit (K + 64) E c) (nearestWhole f p) bottom half m (raised (K + 64) e - 4 * p) low high))
         farther-signed
 
 -- The form: a leading 1 and p digits; after a carry the digits are zeros, and the last is even.
@@ -202,6 +217,7 @@ form p r e bias s h = elim (decLt r (16 ^ p)) [ yes k ↦ simp (lt-ltb r (16 ^ p
   where
     kept : r < 16 ^ p → Form p r ((1 * 16 ^ p + r) * 1) (p + 0)
     kept k = rw (mul-one, one-mul) (record { places = add-zero p; leading = omega arith; below = omega arith; parity = λ e. e })
+
     carry : 0 < 16 ^ p → 16 ^ p % 2 ≡ 0 → Form p r ((1 * 16 ^ p + 0) * 1) (p + 0)
     carry k g = rw (mul-one, one-mul) (record { places = add-zero p; leading = omega arith; below = omega arith; parity = λ e. omega arith })
 

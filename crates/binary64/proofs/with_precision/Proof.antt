@@ -1,14 +1,12 @@
 -- `binary64::with_precision` meets its contract. Assumes nothing.
 use mathlib.Core.Path.{_≡_, ap, _∙_, subst}
 use Prim.Native.Nat.{ℕ, _+_, _-_, _^_, _≤_, _<_}
-use native.Mathlib.Nat.{one-le-pow}
 use native.Mathlib.Omega.{arith}
-use lib.Dec.{lit<}
 use borrow.Author.Needs.{needs}
 use borrow.Author.Tests.{lt-ltb, le-ltb}
 use Rattle.binary64.specs.Rounding.{nearestTo}
 use Rattle.binary64.specs.HexFloat.{normalForm, rounded}
-use Rattle.binary64.proofs.Powers.{shifted, shifted-left}
+use Rattle.binary64.proofs.Powers.{shifted-pos, shifted, shifted-left}
 use Rattle.binary64.proofs.with_precision.Statement.{statement}
 use Rattle.binary64.proofs.with_precision.Tie as tie
 
@@ -39,9 +37,7 @@ shl-nearest-to : tie.Need-shl-nearest-to
 shl-nearest-to c = search needs
 
 nearest-to-requires : tie.Need-nearest-to-requires
-nearest-to-requires c κs =
-    let p = c .before .args .precision in
-    (omega arith, rw (shifted-left p (omega arith)) (one-le-pow (13 - p) 16 (lit< tt)))
+nearest-to-requires c κs = (omega arith, shifted-pos _ (search needs))
 
 nearest : (c : tie.After-nearest-to) → c .nearest-to .result ≡ nearestTo (c .before .before .args .mantissa) (16 ^ (13 - c .before .before .args .precision))
 nearest c =

@@ -5,7 +5,7 @@ use native.Mathlib.Nat.{mod-lt}
 use native.Mathlib.Omega.{arith}
 use Rattle.numerals.specs.Digits.{digitsIn, lettersOf}
 use Rattle.numerals.proofs.Digits.{digitByte, digitNext, digits-right}
-use Rattle.numerals.proofs.Backwards.{Written, written-none, written-turn, written-all}
+use Rattle.writing.proofs.Backwards.{Written, written-none, written-turn, written-all}
 use borrow.Author.Needs.{needs}
 use Rattle.numerals.proofs.write_digits.Statement.{statement}
 use Rattle.numerals.proofs.write_digits.Tie as tie

@@ -7,7 +7,7 @@ use Rattle.writing.proofs.FromRight.{fromRight}
 use Rattle.numerals.specs.Digits.{decimal}
 use Rattle.numerals.specs.Grouping.{grouped}
 use Rattle.numerals.proofs.Grouping.{groupByte, groupNext, grouped-right}
-use Rattle.numerals.proofs.Backwards.{Written, written-none, written-turn, written-all}
+use Rattle.writing.proofs.Backwards.{Written, written-none, written-turn, written-all}
 use borrow.Author.Needs.{needs}
 use Rattle.numerals.proofs.write_grouped.Statement.{statement}
 use Rattle.numerals.proofs.write_grouped.Tie as tie
