@@ -45,7 +45,7 @@ module _ (s : List ℕ) (i : ℕ) where
   unfolding leadingDigits
   above-digit h m = simp (drop-cons s i 0 h, le-leb 48 (getD s i 0) (omega arith), lt-leb (getD s i 0) 57 m)
 
-  digit-at : i < length s → 48 ≤ getD s i 0 → getD s i 0 ≤ 57 → leadingDigits (drop i s) ≡ (getD s i 0 - 48) ∷ leadingDigits (drop (i + 1) s)
+  pub digit-at : i < length s → 48 ≤ getD s i 0 → getD s i 0 ≤ 57 → leadingDigits (drop i s) ≡ (getD s i 0 - 48) ∷ leadingDigits (drop (i + 1) s)
   unfolding leadingDigits
   digit-at h m n = simp (drop-cons s i 0 h, le-leb 48 (getD s i 0) m, le-leb (getD s i 0) 57 n, add-one)
 

@@ -199,3 +199,21 @@ pub fn take_numeric_param(s: &[u8], at: usize, zero: bool) -> Taken
         next: at,
     }
 }
+
+// The place behind the digits that stand in s from the place at on.
+pub fn digits_end(s: &[u8], at: usize) -> usize
+    ensures { λ r. ⌜ r ≡ at + length (leadingDigits (drop at (now (s .entry)))) ⌝ }
+{
+    let mut i = at;
+    while i < s.len() {
+        let b = s[i];
+        if b < 48 {
+            return i;
+        }
+        if 57 < b {
+            return i;
+        }
+        i = i + 1;
+    }
+    i
+}

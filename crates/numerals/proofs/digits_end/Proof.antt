@@ -1,0 +1,67 @@
+-- `numerals::digits_end` meets its contract. The loop's invariant: the digits from i on end where those from the start do. Assumes nothing.
+use Prim.Native.Nat.{_+_, _-_}
+use mathlib.Core.Path.{_≡_, refl, ap}
+use lib.ListN.{length, drop}
+use native.Mathlib.Omega.{arith}
+use Rattle.numerals.specs.Params.{leadingDigits}
+use Rattle.numerals.proofs.Params.{end-of-text, below-digit, above-digit, digit-at}
+use borrow.Author.Needs.{needs}
+use Rattle.numerals.proofs.digits_end.Statement.{statement}
+use Rattle.numerals.proofs.digits_end.Tie as tie
+
+abbrev Inv-loop : tie.InvT-loop
+Inv-loop s at i₀ i = i + length (leadingDigits (drop i s)) ≡ at + length (leadingDigits (drop at s))
+
+abbrev μ-loop : tie.MeasureT-loop
+μ-loop s at i₀ i = length s - i
+
+loop-holds : tie.Need-loop-holds Inv-loop μ-loop
+loop-holds c = refl
+
+shared-slice-read-b : tie.Need-shared-slice-read-b Inv-loop μ-loop
+shared-slice-read-b c = search needs
+
+returns : tie.Need-returns Inv-loop μ-loop
+returns c =
+    let l = c .before .before .before .loop in
+    let s = c .before .before .before .before .args .s .now in
+    omega (arith, l .inv, ap length (below-digit s (l .i) (omega arith) (omega arith)))
+
+returns-2 : tie.Need-returns-2 Inv-loop μ-loop
+returns-2 c =
+    let l = c .before .before .before .before .loop in
+    let s = c .before .before .before .before .before .args .s .now in
+    omega (arith, l .inv, ap length (above-digit s (l .i) (omega arith) (omega arith)))
+
+add-i : tie.Need-add-i Inv-loop μ-loop
+add-i c = search needs
+
+loop-less : tie.Need-loop-less Inv-loop μ-loop
+loop-less c = search needs
+
+loop-again : tie.Need-loop-again Inv-loop μ-loop
+loop-again c =
+    let l = c .before .before .before .before .loop in
+    let s = c .before .before .before .before .before .args .s .now in
+    omega (arith, l .inv, ap length (digit-at s (l .i) (omega arith) (omega arith) (omega arith)))
+
+returns-3 : tie.Need-returns-3 Inv-loop μ-loop
+returns-3 c =
+    let l = c .before .loop in
+    let s = c .before .before .args .s .now in
+    omega (arith, l .inv, ap length (end-of-text s (l .i) (omega arith)))
+
+pub digits-end-spec : {M : Type 1} → statement M
+digits-end-spec =
+    tie.close
+    (tie.spec
+    Inv-loop
+    μ-loop
+    loop-holds
+    shared-slice-read-b
+    returns
+    returns-2
+    add-i
+    loop-less
+    loop-again
+    returns-3)

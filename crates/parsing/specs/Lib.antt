@@ -1,0 +1,4 @@
+pub mod Flags
+pub mod Specifier
+pub mod Pieces
+pub mod Check

@@ -1,0 +1,631 @@
+// Reading a format: flags, specifiers, pieces, and the check of a format against a list of kinds.
+// Ported from format_string.rs of datafusion-spark 55.2.0 (Apache-2.0; see NOTICE): take_conversion_specifier and
+// Formatter::parse. The original keeps a vector of elements; here a cursor reads the format again from an offset.
+use conversions::{ConversionType, KindByte, Letter, TimeLetter};
+use numerals::{NumericParam, Taken};
+
+ghost use mathlib.Core.Path.{_≡_};
+ghost use Prim.Native.Nat.{_+_, _≤_, _<_, max};
+ghost use lib.ListN.{length, drop};
+ghost use Rattle.parsing.specs.Flags.{flagOf, flagsFrom, noFlags};
+ghost use Rattle.parsing.specs.Specifier.{beginsWith, precisionAt, timeLetterAt, letterAt, flagsRefusal, letterRefusal, specifierAt};
+ghost use Rattle.parsing.specs.Pieces.{start, passed, used, textLength, isIndex, indexAt, elementOf, sameArgument, afterIndex, afterPercent, pieceAt};
+ghost use Rattle.parsing.specs.Check.{ended, isKnown, allKnown, checked};
+
+// The flags that were read. The original's names are alt_form, zero_pad, left_adj, space_sign, force_sign, grouping_separator and
+// negative_in_parentheses; a definition can name a field plainly only where it is one word.
+pub struct Flags {
+    pub alternate: bool,
+    pub zero: bool,
+    pub left: bool,
+    pub space: bool,
+    pub plus: bool,
+    pub grouping: bool,
+    pub parentheses: bool,
+}
+
+// What a byte does to the flags: one more is set, the flags end before it, or it clashes with an earlier one.
+pub enum FlagStep {
+    Set(Flags),
+    Ends,
+    Clash(u8),
+}
+
+pub enum FlagsTaken {
+    Read { flags: Flags, next: usize },
+    Refused { number: u8 },
+}
+
+pub enum LetterTaken {
+    Read { conversion: ConversionType, next: usize },
+    Refused { number: u8 },
+}
+
+// An element: the argument that it takes, and how it is printed.
+pub struct Element {
+    pub argument: usize,
+    pub flags: Flags,
+    pub width: NumericParam,
+    pub precision: NumericParam,
+    pub conversion: ConversionType,
+}
+
+pub enum Specifier {
+    Read { element: Element, next: usize },
+    Refused { number: u8 },
+}
+
+// The argument of an element: its index, the place behind it, and the running count.
+pub enum Index {
+    Named { argument: usize, next: usize, count: usize },
+    Refused { number: u8 },
+}
+
+// A piece: part of the format as it stands, a line's end, or an element.
+pub enum Piece {
+    Fixed { start: usize, len: usize },
+    NewLine,
+    Element(Element),
+}
+
+// Where reading stands: the offset, the running count, the argument that `%<` takes (0 for none), the pieces found so far and the largest
+// argument index used so far.
+pub struct Cursor {
+    pub at: usize,
+    pub count: usize,
+    pub last: usize,
+    pub pieces: usize,
+    pub largest: usize,
+}
+
+pub enum Step {
+    Found { piece: Piece, next: Cursor },
+    Refused { number: u8, place: usize },
+    End,
+}
+
+pub enum Ended {
+    Finished { cursor: Cursor },
+    Stopped { number: u8, place: usize },
+}
+
+pub enum Checked {
+    Accepted { pieces: usize, largest: usize },
+    Refused { number: u8, place: usize },
+}
+
+// One flag more.
+fn with_flag(f: Flags, b: u8) -> FlagStep
+    ensures { λ r. ⌜ r ≡ flagOf f b ⌝ }
+{
+    let mut g = f;
+    match b {
+        35 => {
+            g.alternate = true;
+            FlagStep::Set(g)
+        }
+        48 => {
+            let left = f.left;
+            if left {
+                return FlagStep::Clash(8);
+            }
+            g.zero = true;
+            FlagStep::Set(g)
+        }
+        45 => {
+            g.left = true;
+            FlagStep::Set(g)
+        }
+        32 => {
+            let plus = f.plus;
+            if plus {
+                return FlagStep::Clash(9);
+            }
+            g.space = true;
+            FlagStep::Set(g)
+        }
+        43 => {
+            let space = f.space;
+            if space {
+                return FlagStep::Clash(9);
+            }
+            g.plus = true;
+            FlagStep::Set(g)
+        }
+        44 => {
+            g.grouping = true;
+            FlagStep::Set(g)
+        }
+        40 => {
+            g.parentheses = true;
+            FlagStep::Set(g)
+        }
+        _ => FlagStep::Ends,
+    }
+}
+
+fn no_flags() -> Flags
+    ensures { λ r. ⌜ r ≡ noFlags ⌝ }
+{
+    Flags {
+        alternate: false,
+        zero: false,
+        left: false,
+        space: false,
+        plus: false,
+        grouping: false,
+        parentheses: false,
+    }
+}
+
+// The flags from the place at on.
+fn take_flags(fmt: &[u8], at: usize) -> FlagsTaken
+    ensures { λ r. ⌜ r ≡ flagsFrom (drop at (now (fmt .entry))) at noFlags ⌝ }
+{
+    let mut i = at;
+    let mut flags = no_flags();
+    while i < fmt.len() {
+        let step = with_flag(flags, fmt[i]);
+        match step {
+            FlagStep::Set(g) => {
+                flags = g;
+                i = i + 1;
+            }
+            FlagStep::Clash(n) => {
+                return FlagsTaken::Refused { number: n };
+            }
+            FlagStep::Ends => {
+                return FlagsTaken::Read {
+                    flags: flags,
+                    next: i,
+                };
+            }
+        }
+    }
+    FlagsTaken::Read {
+        flags: flags,
+        next: i,
+    }
+}
+
+// `.` and digits, or no precision.
+fn take_precision(fmt: &[u8], at: usize) -> Taken
+    ensures { λ r. ⌜ r ≡ precisionAt (now (fmt .entry)) at ⌝ }
+{
+    if at < fmt.len() {
+        if fmt[at] == 46 {
+            return numerals::take_numeric_param(fmt, at + 1, true);
+        }
+    }
+    Taken::Param {
+        param: NumericParam::FromArgument,
+        next: at,
+    }
+}
+
+// The letter behind t or T, at the place at + 1: upper for T.
+fn take_time_letter(fmt: &[u8], at: usize, upper: bool) -> LetterTaken
+    requires { ⌜ at < length (now fmt) ⌝ }
+    ensures { λ r. ⌜ r ≡ timeLetterAt (now (fmt .entry)) at upper ⌝ }
+{
+    let second = at + 1;
+    if fmt.len() <= second {
+        return LetterTaken::Refused { number: 11 };
+    }
+    let TimeLetter::Component(x) = conversions::time_of(fmt[second]) else {
+        return LetterTaken::Refused { number: 11 };
+    };
+    if upper {
+        return LetterTaken::Read {
+            conversion: ConversionType::TimeUpper(x),
+            next: at + 2,
+        };
+    }
+    LetterTaken::Read {
+        conversion: ConversionType::TimeLower(x),
+        next: at + 2,
+    }
+}
+
+// The letter, or t or T with its own.
+fn take_letter(fmt: &[u8], at: usize) -> LetterTaken
+    ensures { λ r. ⌜ r ≡ letterAt (now (fmt .entry)) at ⌝ }
+{
+    if fmt.len() <= at {
+        return LetterTaken::Refused { number: 10 };
+    }
+    let b = fmt[at];
+    if b == 116 {
+        return take_time_letter(fmt, at, false);
+    }
+    if b == 84 {
+        return take_time_letter(fmt, at, true);
+    }
+    let Letter::Conversion(c) = conversions::conversion_of(b) else {
+        return LetterTaken::Refused { number: 10 };
+    };
+    LetterTaken::Read {
+        conversion: c,
+        next: at + 1,
+    }
+}
+
+// A refusal of the flags, handed upward.
+fn flags_refusal(t: FlagsTaken) -> Specifier
+    ensures { λ r. ⌜ r ≡ flagsRefusal t ⌝ }
+{
+    match t {
+        FlagsTaken::Refused { number } => Specifier::Refused { number: number },
+        FlagsTaken::Read { flags: _, next: _ } => Specifier::Refused { number: 0 },
+    }
+}
+
+fn letter_refusal(t: LetterTaken) -> Specifier
+    ensures { λ r. ⌜ r ≡ letterRefusal t ⌝ }
+{
+    match t {
+        LetterTaken::Refused { number } => Specifier::Refused { number: number },
+        LetterTaken::Read { conversion: _, next: _ } => Specifier::Refused { number: 0 },
+    }
+}
+
+// An element behind its index: flags, width, precision, letter, and whether it fits the kind.
+fn take_conversion_specifier(fmt: &[u8], at: usize, argument: usize, kind: u8) -> Specifier
+    ensures { λ r. ⌜ r ≡ specifierAt (now (fmt .entry)) at argument kind ⌝ }
+{
+    let read = take_flags(fmt, at);
+    let FlagsTaken::Read { flags, next: w } = read else {
+        return flags_refusal(read);
+    };
+    let Taken::Param { param: width, next: p } = numerals::take_numeric_param(fmt, w, false) else {
+        return Specifier::Refused { number: 6 };
+    };
+    let Taken::Param { param: precision, next: l } = take_precision(fmt, p) else {
+        return Specifier::Refused { number: 6 };
+    };
+    let letter = take_letter(fmt, l);
+    let LetterTaken::Read { conversion, next: end } = letter else {
+        return letter_refusal(letter);
+    };
+    if conversions::validate(conversion, kind) {
+        return Specifier::Read {
+            element: Element {
+                argument: argument,
+                flags: flags,
+                width: width,
+                precision: precision,
+                conversion: conversion,
+            },
+            next: end,
+        };
+    }
+    Specifier::Refused { number: 12 }
+}
+
+// Whether the byte at a place is b.
+fn is_byte(fmt: &[u8], at: usize, b: u8) -> bool
+    ensures { λ r. ⌜ r ≡ beginsWith b (drop at (now (fmt .entry))) ⌝ }
+{
+    if at < fmt.len() {
+        return fmt[at] == b;
+    }
+    false
+}
+
+// Whether an index stands at a place: digits from 1 to 9 onward, and then `$`.
+fn is_index(fmt: &[u8], at: usize) -> bool
+    ensures { λ r. ⌜ r ≡ isIndex (now (fmt .entry)) at ⌝ }
+{
+    if at < fmt.len() {
+        if fmt[at] < 49 {
+            return false;
+        }
+        if 57 < fmt[at] {
+            return false;
+        }
+        return is_byte(fmt, numerals::digits_end(fmt, at), 36);
+    }
+    false
+}
+
+// The argument of an element that names one by an index, or takes the next in the running count.
+fn take_index(fmt: &[u8], at: usize, count: usize) -> Index
+    requires { ⌜ count < 512 ⌝ }
+    ensures { λ r. ⌜ r ≡ indexAt (now (fmt .entry)) at count ⌝ }
+{
+    if is_byte(fmt, at, 36) {
+        return Index::Refused { number: 5 };
+    }
+    if is_index(fmt, at) {
+        let Taken::Param { param, next } = numerals::take_numeric_param(fmt, at, false) else {
+            return Index::Refused { number: 6 };
+        };
+        let NumericParam::Literal(n) = param else {
+            return Index::Refused { number: 5 };
+        };
+        return Index::Named {
+            argument: n as usize,
+            next: next + 1,
+            count: count,
+        };
+    }
+    Index::Named {
+        argument: count + 1,
+        next: at,
+        count: count + 1,
+    }
+}
+
+// The place of the next `%` from a place on, or the format's end.
+fn text_end(fmt: &[u8], at: usize) -> usize
+    ensures { λ r. ⌜ r ≡ at + textLength (drop at (now (fmt .entry))) ⌝ }
+{
+    let mut i = at;
+    while i < fmt.len() {
+        if fmt[i] == 37 {
+            return i;
+        }
+        i = i + 1;
+    }
+    i
+}
+
+// The cursor behind a piece that uses no argument.
+fn passed_by(c: Cursor, at: usize) -> Cursor
+    requires { ⌜ c .pieces < 512 ⌝ }
+    ensures { λ r. ⌜ r ≡ passed c at ⌝ }
+{
+    Cursor {
+        at: at,
+        count: c.count,
+        last: c.last,
+        pieces: c.pieces + 1,
+        largest: c.largest,
+    }
+}
+
+fn larger(a: usize, b: usize) -> usize
+    ensures { λ r. ⌜ r ≡ max a b ⌝ }
+{
+    if a < b {
+        return b;
+    }
+    a
+}
+
+// The cursor behind an element.
+fn used_by(c: Cursor, at: usize, count: usize, last: usize, argument: usize) -> Cursor
+    requires { ⌜ c .pieces < 512 ⌝ }
+    ensures { λ r. ⌜ r ≡ used c at count last argument ⌝ }
+{
+    Cursor {
+        at: at,
+        count: count,
+        last: last,
+        pieces: c.pieces + 1,
+        largest: larger(c.largest, argument),
+    }
+}
+
+// An element of an argument, read from a place on.
+fn take_element(fmt: &[u8], kinds: &[u8], c: Cursor, next: usize, argument: usize, count: usize, last: usize) -> Step
+    requires { ⌜ (c .pieces < 512) × (1 ≤ argument) ⌝ }
+    ensures { λ r. ⌜ r ≡ elementOf (now (fmt .entry)) (now (kinds .entry)) c next argument count last ⌝ }
+{
+    let place = c.at;
+    if kinds.len() < argument {
+        return Step::Refused {
+            number: 7,
+            place: place,
+        };
+    }
+    let read = take_conversion_specifier(fmt, next, argument, kinds[argument - 1]);
+    match read {
+        Specifier::Read { element, next: end } => Step::Found {
+            piece: Piece::Element(element),
+            next: used_by(c, end, count, last, argument),
+        },
+        Specifier::Refused { number } => Step::Refused {
+            number: number,
+            place: place,
+        },
+    }
+}
+
+// An element behind `%<`.
+fn take_same(fmt: &[u8], kinds: &[u8], c: Cursor) -> Step
+    requires { ⌜ (c .pieces < 512) × (c .at + 1 < length (now fmt)) ⌝ }
+    ensures { λ r. ⌜ r ≡ sameArgument (now (fmt .entry)) (now (kinds .entry)) c ⌝ }
+{
+    let at = c.at;
+    let last = c.last;
+    let count = c.count;
+    if last == 0 {
+        return Step::Refused {
+            number: 4,
+            place: at,
+        };
+    }
+    take_element(fmt, kinds, c, at + 2, last, count, last)
+}
+
+// An element with an index or the running count.
+fn take_next(fmt: &[u8], kinds: &[u8], c: Cursor) -> Step
+    requires { ⌜ (c .pieces < 512) × (c .count ≤ c .pieces) × (c .at < length (now fmt)) ⌝ }
+    ensures { λ r. ⌜ r ≡ afterIndex (now (fmt .entry)) (now (kinds .entry)) c (indexAt (now (fmt .entry)) (c .at + 1) (c .count)) ⌝ }
+{
+    let at = c.at;
+    let count = c.count;
+    let index = take_index(fmt, at + 1, count);
+    match index {
+        Index::Named { argument, next, count: counted } => take_element(fmt, kinds, c, next, argument, counted, argument),
+        Index::Refused { number } => Step::Refused {
+            number: number,
+            place: at,
+        },
+    }
+}
+
+// What stands behind a `%`.
+fn take_percent(fmt: &[u8], kinds: &[u8], c: Cursor) -> Step
+    requires { ⌜ (c .pieces < 512) × (c .count ≤ c .pieces) × (c .at < length (now fmt)) ⌝ }
+    ensures { λ r. ⌜ r ≡ afterPercent (now (fmt .entry)) (now (kinds .entry)) c (drop (c .at + 1) (now (fmt .entry))) ⌝ }
+{
+    let at = c.at;
+    let second = at + 1;
+    if is_byte(fmt, second, 37) {
+        return Step::Found {
+            piece: Piece::Fixed {
+                start: second,
+                len: 1,
+            },
+            next: passed_by(c, at + 2),
+        };
+    }
+    if is_byte(fmt, second, 110) {
+        return Step::Found {
+            piece: Piece::NewLine,
+            next: passed_by(c, at + 2),
+        };
+    }
+    if is_byte(fmt, second, 60) {
+        return take_same(fmt, kinds, c);
+    }
+    take_next(fmt, kinds, c)
+}
+
+// The next piece from a cursor on. A cursor that these functions made has counted no more arguments than pieces.
+pub fn next_piece(fmt: &[u8], kinds: &[u8], c: Cursor) -> Step
+    requires { ⌜ c .count ≤ c .pieces ⌝ }
+    ensures { λ r. ⌜ r ≡ pieceAt (now (fmt .entry)) (now (kinds .entry)) c ⌝ }
+{
+    let at = c.at;
+    let pieces = c.pieces;
+    if fmt.len() <= at {
+        return Step::End;
+    }
+    if 512 <= pieces {
+        return Step::Refused {
+            number: 13,
+            place: at,
+        };
+    }
+    if fmt[at] == 37 {
+        return take_percent(fmt, kinds, c);
+    }
+    let end = text_end(fmt, at);
+    Step::Found {
+        piece: Piece::Fixed {
+            start: at,
+            len: end - at,
+        },
+        next: passed_by(c, end),
+    }
+}
+
+// Before the first piece.
+pub fn first_cursor() -> Cursor
+    ensures { λ r. ⌜ r ≡ start ⌝ }
+{
+    Cursor {
+        at: 0,
+        count: 0,
+        last: 0,
+        pieces: 0,
+        largest: 0,
+    }
+}
+
+// All pieces in turn: where reading ends.
+fn read_pieces(fmt: &[u8], kinds: &[u8]) -> Ended
+    ensures { λ r. ⌜ r ≡ ended (now (fmt .entry)) (now (kinds .entry)) ⌝ }
+{
+    let mut c = first_cursor();
+    let mut left: u32 = 513;
+    while 0 < left {
+        let step = next_piece(fmt, kinds, c);
+        match step {
+            Step::Found { piece: _, next } => {
+                c = next;
+            }
+            Step::Refused { number, place } => {
+                return Ended::Stopped {
+                    number: number,
+                    place: place,
+                };
+            }
+            Step::End => {
+                return Ended::Finished { cursor: c };
+            }
+        }
+        left = left - 1;
+    }
+    Ended::Stopped {
+        number: 13,
+        place: c.at,
+    }
+}
+
+fn is_known(k: KindByte) -> bool
+    ensures { λ r. ⌜ r ≡ isKnown k ⌝ }
+{
+    match k {
+        KindByte::Known(_) => true,
+        KindByte::Unknown => false,
+    }
+}
+
+// Whether every byte is a kind.
+fn all_known(kinds: &[u8]) -> bool
+    ensures { λ r. ⌜ r ≡ allKnown (now (kinds .entry)) ⌝ }
+{
+    let mut i = 0;
+    while i < kinds.len() {
+        if !is_known(conversions::kind_of(kinds[i])) {
+            return false;
+        }
+        i = i + 1;
+    }
+    true
+}
+
+// A format checked against kinds. One pass over each: no byte is read more often than a bounded number of times (the digits of an index twice).
+pub fn check(fmt: &[u8], kinds: &[u8]) -> Checked
+    ensures { λ r. ⌜ r ≡ checked (now (fmt .entry)) (now (kinds .entry)) ⌝ }
+{
+    if 4096 < fmt.len() {
+        return Checked::Refused {
+            number: 1,
+            place: 0,
+        };
+    }
+    if !utf8::is_well_formed(fmt) {
+        return Checked::Refused {
+            number: 2,
+            place: 0,
+        };
+    }
+    if 64 < kinds.len() {
+        return Checked::Refused {
+            number: 3,
+            place: 0,
+        };
+    }
+    if !all_known(kinds) {
+        return Checked::Refused {
+            number: 3,
+            place: 0,
+        };
+    }
+    let end = read_pieces(fmt, kinds);
+    match end {
+        Ended::Finished { cursor } => Checked::Accepted {
+            pieces: cursor.pieces,
+            largest: cursor.largest,
+        },
+        Ended::Stopped { number, place } => Checked::Refused {
+            number: number,
+            place: place,
+        },
+    }
+}

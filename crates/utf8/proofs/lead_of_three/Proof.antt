@@ -1,0 +1,33 @@
+-- `utf8::lead_of_three` meets its contract. Assumes nothing.
+use mathlib.Core.Path.{sym, ap, _∙_}
+use native.Mathlib.Omega.{arith}
+use borrow.Author.Needs.{needs}
+use Rattle.utf8.specs.Utf8.{leadOf}
+use Rattle.utf8.proofs.Utf8.{lead-three}
+use Rattle.utf8.proofs.lead_of_three.Statement.{statement}
+use Rattle.utf8.proofs.lead_of_three.Tie as tie
+
+follow-requires : tie.Need-follow-requires
+follow-requires c κs = search needs
+
+returns : tie.Need-returns
+unfolding leadOf
+returns c = c .follow .ensures ∙ sym (ap leadOf (c .before .if1 .taken))
+
+follow-requires-2 : tie.Need-follow-requires-2
+follow-requires-2 c κs = search needs
+
+returns-2 : tie.Need-returns-2
+unfolding leadOf
+returns-2 c = c .follow2 .ensures ∙ sym (ap leadOf (c .before .if2 .taken))
+
+follow-requires-3 : tie.Need-follow-requires-3
+follow-requires-3 c κs = search needs
+
+returns-3 : tie.Need-returns-3
+returns-3 c = c .follow3 .ensures ∙ sym (lead-three _ (omega arith) (omega arith) (c .before .if2 .left))
+
+pub lead-of-three-spec : {M : Type 1} → statement M
+lead-of-three-spec =
+    tie.close
+    (tie.spec follow-requires returns follow-requires-2 returns-2 follow-requires-3 returns-3)
