@@ -6,22 +6,11 @@ use Prim.Native.Nat.{ℕ, suc, _+_, _≤_, _<_}
 use lib.ListN.{length, getD, drop}
 use borrow.Author.Tests.{eq-eqb, ne-eqb}
 use Rattle.conversions.specs.Kinds.{kindOf}
-use Rattle.parsing.specs.Flags.{flagOf, afterFlag, flagsFrom}
 use Rattle.parsing.specs.Pieces.{textLength}
 use Rattle.parsing.specs.Check.{isKnown, allKnown}
-use Rattle.parsing.specs.declared.Flags.{Flags}
-use Rattle.parsing.specs.declared.FlagsTaken.the-variants.{Read}
-use Rattle.parsing.proofs.Bytes.{byte-at, no-byte}
+use Rattle.specifiers.proofs.Bytes.{byte-at, no-byte}
 
 module _ (s : List ℕ) (i : ℕ) where
-  pub flags-end : (f : Flags) → length s ≤ i → flagsFrom (drop i s) i f ≡ Read f i
-  unfolding flagsFrom
-  flags-end f h = simp (no-byte s i h)
-
-  pub flags-at : (f : Flags) → i < length s → flagsFrom (drop i s) i f ≡ afterFlag (flagOf f (getD s i 0)) (flagsFrom (drop (i + 1) s) (i + 1)) i f
-  unfolding flagsFrom
-  flags-at f h = simp (byte-at s i h)
-
   pub text-ends : length s ≤ i → textLength (drop i s) ≡ 0
   unfolding textLength
   text-ends h = simp (no-byte s i h)

@@ -1,4 +1,2 @@
-pub mod Flags
-pub mod Specifier
 pub mod Pieces
 pub mod Check

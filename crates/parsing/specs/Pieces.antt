@@ -9,9 +9,9 @@ use Rattle.numerals.specs.Params.{isParam, leadingDigits, paramAt}
 use Rattle.numerals.specs.declared.NumericParam.the-variants.{Literal, FromArgument}
 use Rattle.numerals.specs.declared.Taken.{Taken}
 use Rattle.numerals.specs.declared.Taken.the-variants.{Param, TooLarge}
-use Rattle.parsing.specs.Specifier.{beginsWith, specifierAt}
-use Rattle.parsing.specs.declared.Specifier.{Specifier}
-use Rattle.parsing.specs.declared.Specifier.the-variants as S
+use Rattle.specifiers.specs.Specifier.{beginsWith, specifierAt}
+use Rattle.specifiers.specs.declared.Specifier.{Specifier}
+use Rattle.specifiers.specs.declared.Specifier.the-variants as S
 use Rattle.parsing.specs.declared.Index.{Index}
 use Rattle.parsing.specs.declared.Index.the-variants as I
 use Rattle.parsing.specs.declared.Piece.{Piece}

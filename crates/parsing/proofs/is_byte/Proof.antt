@@ -1,6 +1,6 @@
 -- `parsing::is_byte` meets its contract. Assumes nothing.
 use mathlib.Core.Path.{sym}
-use Rattle.parsing.proofs.Bytes.{begins-at, begins-past}
+use Rattle.specifiers.proofs.Bytes.{begins-at, begins-past}
 use borrow.Author.Needs.{needs}
 use Rattle.parsing.proofs.is_byte.Statement.{statement}
 use Rattle.parsing.proofs.is_byte.Tie as tie

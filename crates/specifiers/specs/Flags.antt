@@ -3,11 +3,11 @@ use Prim.Native.Nat.{ℕ, _+_}
 use mathlib.Core.Bool.{Bool, true, false}
 use mathlib.Core.List.{List, [], _∷_}
 use Rattle.conversions.specs.Letters.{named}
-use Rattle.parsing.specs.declared.Flags.{Flags}
-use Rattle.parsing.specs.declared.FlagStep.{FlagStep}
-use Rattle.parsing.specs.declared.FlagStep.the-variants.{Set, Ends, Clash}
-use Rattle.parsing.specs.declared.FlagsTaken.{FlagsTaken}
-use Rattle.parsing.specs.declared.FlagsTaken.the-variants.{Read, Refused}
+use Rattle.specifiers.specs.declared.Flags.{Flags}
+use Rattle.specifiers.specs.declared.FlagStep.{FlagStep}
+use Rattle.specifiers.specs.declared.FlagStep.the-variants.{Set, Ends, Clash}
+use Rattle.specifiers.specs.declared.FlagsTaken.{FlagsTaken}
+use Rattle.specifiers.specs.declared.FlagsTaken.the-variants.{Read, Refused}
 
 -- In the order `# 0 - space + , (`.
 abbrev pub flags : Bool → Bool → Bool → Bool → Bool → Bool → Bool → Flags

@@ -1,13 +1,13 @@
--- `parsing::take_flags` meets its contract. The loop's invariant: the flags from i on, after those read, are the flags of the whole. Assumes nothing.
+-- `specifiers::take_flags` meets its contract. The loop's invariant: the flags from i on, after those read, are the flags of the whole. Assumes nothing.
 use Prim.Native.Nat.{_+_, _-_}
 use mathlib.Core.Path.{_≡_, sym, ap, _∙_}
 use lib.ListN.{length, drop}
 use native.Mathlib.Omega.{arith}
-use Rattle.parsing.specs.Flags.{noFlags, afterFlag, flagsFrom}
-use Rattle.parsing.proofs.Runs.{flags-end, flags-at}
+use Rattle.specifiers.specs.Flags.{noFlags, afterFlag, flagsFrom}
+use Rattle.specifiers.proofs.Runs.{flags-end, flags-at}
 use borrow.Author.Needs.{needs}
-use Rattle.parsing.proofs.take_flags.Statement.{statement}
-use Rattle.parsing.proofs.take_flags.Tie as tie
+use Rattle.specifiers.proofs.take_flags.Statement.{statement}
+use Rattle.specifiers.proofs.take_flags.Tie as tie
 
 abbrev Inv-loop : tie.InvT-loop
 Inv-loop fmt at i₀ flags₀ i flags = flagsFrom (drop i fmt) i flags ≡ flagsFrom (drop at fmt) at noFlags

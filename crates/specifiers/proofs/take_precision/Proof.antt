@@ -1,10 +1,10 @@
--- `parsing::take_precision` meets its contract. Assumes nothing.
+-- `specifiers::take_precision` meets its contract. Assumes nothing.
 use borrow.Author.Tests.{eq-eqb, ne-eqb}
-use Rattle.parsing.specs.Specifier.{precisionAt}
-use Rattle.parsing.proofs.Bytes.{begins-at, begins-past}
+use Rattle.specifiers.specs.Specifier.{precisionAt}
+use Rattle.specifiers.proofs.Bytes.{begins-at, begins-past}
 use borrow.Author.Needs.{needs}
-use Rattle.parsing.proofs.take_precision.Statement.{statement}
-use Rattle.parsing.proofs.take_precision.Tie as tie
+use Rattle.specifiers.proofs.take_precision.Statement.{statement}
+use Rattle.specifiers.proofs.take_precision.Tie as tie
 
 shared-slice-read-if2 : tie.Need-shared-slice-read-if2
 shared-slice-read-if2 c = search needs

@@ -1,9 +1,9 @@
--- `parsing::letter_refusal` meets its contract. Assumes nothing.
+-- `specifiers::letter_refusal` meets its contract. Assumes nothing.
 use mathlib.Core.Path.{sym, ap}
-use Rattle.parsing.specs.Specifier.{letterRefusal}
+use Rattle.specifiers.specs.Specifier.{letterRefusal}
 use borrow.Author.Needs.{needs}
-use Rattle.parsing.proofs.letter_refusal.Statement.{statement}
-use Rattle.parsing.proofs.letter_refusal.Tie as tie
+use Rattle.specifiers.proofs.letter_refusal.Statement.{statement}
+use Rattle.specifiers.proofs.letter_refusal.Tie as tie
 
 enum-known-t : tie.Need-enum-known-t
 enum-known-t c = search needs

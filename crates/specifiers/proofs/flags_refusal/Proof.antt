@@ -1,9 +1,9 @@
--- `parsing::flags_refusal` meets its contract. Assumes nothing.
+-- `specifiers::flags_refusal` meets its contract. Assumes nothing.
 use mathlib.Core.Path.{sym, ap}
-use Rattle.parsing.specs.Specifier.{flagsRefusal}
+use Rattle.specifiers.specs.Specifier.{flagsRefusal}
 use borrow.Author.Needs.{needs}
-use Rattle.parsing.proofs.flags_refusal.Statement.{statement}
-use Rattle.parsing.proofs.flags_refusal.Tie as tie
+use Rattle.specifiers.proofs.flags_refusal.Statement.{statement}
+use Rattle.specifiers.proofs.flags_refusal.Tie as tie
 
 enum-known-t : tie.Need-enum-known-t
 enum-known-t c = search needs

@@ -1,10 +1,10 @@
--- `parsing::take_letter` meets its contract. Assumes nothing.
+-- `specifiers::take_letter` meets its contract. Assumes nothing.
 use borrow.Author.Tests.{eq-eqb, ne-eqb}
-use Rattle.parsing.specs.Specifier.{timeLetterAt, letterAt}
-use Rattle.parsing.proofs.Bytes.{byte-at, no-byte}
+use Rattle.specifiers.specs.Specifier.{timeLetterAt, letterAt}
+use Rattle.specifiers.proofs.Bytes.{byte-at, no-byte}
 use borrow.Author.Needs.{needs}
-use Rattle.parsing.proofs.take_letter.Statement.{statement}
-use Rattle.parsing.proofs.take_letter.Tie as tie
+use Rattle.specifiers.proofs.take_letter.Statement.{statement}
+use Rattle.specifiers.proofs.take_letter.Tie as tie
 
 returns : tie.Need-returns
 unfolding letterAt

@@ -1,9 +1,9 @@
--- `parsing::with_flag` meets its contract. Assumes nothing.
+-- `specifiers::with_flag` meets its contract. Assumes nothing.
 use borrow.Author.Tests.{ne-eqb}
-use Rattle.parsing.specs.Flags.{flagOf}
+use Rattle.specifiers.specs.Flags.{flagOf}
 use borrow.Author.Needs.{needs}
-use Rattle.parsing.proofs.with_flag.Statement.{statement}
-use Rattle.parsing.proofs.with_flag.Tie as tie
+use Rattle.specifiers.proofs.with_flag.Statement.{statement}
+use Rattle.specifiers.proofs.with_flag.Tie as tie
 
 returns : tie.Need-returns
 unfolding flagOf

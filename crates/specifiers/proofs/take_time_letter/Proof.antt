@@ -1,10 +1,10 @@
--- `parsing::take_time_letter` meets its contract. Assumes nothing.
+-- `specifiers::take_time_letter` meets its contract. Assumes nothing.
 use Prim.Native.Nat.{_+_}
-use Rattle.parsing.specs.Specifier.{timeLetterAt}
-use Rattle.parsing.proofs.Bytes.{byte-at, no-byte}
+use Rattle.specifiers.specs.Specifier.{timeLetterAt}
+use Rattle.specifiers.proofs.Bytes.{byte-at, no-byte}
 use borrow.Author.Needs.{needs}
-use Rattle.parsing.proofs.take_time_letter.Statement.{statement}
-use Rattle.parsing.proofs.take_time_letter.Tie as tie
+use Rattle.specifiers.proofs.take_time_letter.Statement.{statement}
+use Rattle.specifiers.proofs.take_time_letter.Tie as tie
 
 add-second : tie.Need-add-second
 add-second c = search needs

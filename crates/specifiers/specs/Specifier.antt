@@ -19,14 +19,14 @@ use Rattle.conversions.specs.declared.Letter.{Letter}
 use Rattle.conversions.specs.declared.Letter.the-variants.{Conversion, NoConversion}
 use Rattle.conversions.specs.declared.TimeLetter.{TimeLetter}
 use Rattle.conversions.specs.declared.TimeLetter.the-variants.{Component, NoComponent}
-use Rattle.parsing.specs.Flags.{noFlags, flagsFrom}
-use Rattle.parsing.specs.declared.Flags.{Flags}
-use Rattle.parsing.specs.declared.FlagsTaken.{FlagsTaken}
-use Rattle.parsing.specs.declared.FlagsTaken.the-variants as F
-use Rattle.parsing.specs.declared.LetterTaken.{LetterTaken}
-use Rattle.parsing.specs.declared.LetterTaken.the-variants as L
-use Rattle.parsing.specs.declared.Specifier.{Specifier}
-use Rattle.parsing.specs.declared.Specifier.the-variants as S
+use Rattle.specifiers.specs.Flags.{noFlags, flagsFrom}
+use Rattle.specifiers.specs.declared.Flags.{Flags}
+use Rattle.specifiers.specs.declared.FlagsTaken.{FlagsTaken}
+use Rattle.specifiers.specs.declared.FlagsTaken.the-variants as F
+use Rattle.specifiers.specs.declared.LetterTaken.{LetterTaken}
+use Rattle.specifiers.specs.declared.LetterTaken.the-variants as L
+use Rattle.specifiers.specs.declared.Specifier.{Specifier}
+use Rattle.specifiers.specs.declared.Specifier.the-variants as S
 
 -- Whether a text begins with the byte b.
 abbrev pub beginsWith : ℕ → List ℕ → Bool

@@ -9,7 +9,7 @@ use native.Mathlib.Omega.{arith}
 use lib.Dec.{eqb}
 use lib.ListN.{length, getD, drop, drop-of-length-le}
 use lib.Seq.{drop-cons}
-use Rattle.parsing.specs.Specifier.{beginsWith}
+use Rattle.specifiers.specs.Specifier.{beginsWith}
 
 -- the text from a place on: its first byte and the rest, or nothing
 pub byte-at : (s : List ℕ) (i : ℕ) → i < length s → drop i s ≡ getD s i 0 ∷ drop (i + 1) s
