@@ -49,5 +49,5 @@ unfoldable pub checked : List ℕ → List ℕ → Checked
 checked s ks =
     choose (ltb 4096 (length s)) (λ _. Refused 1 0)
     (λ _. choose (wellFormed s)
-      (λ _. choose (leb (length ks) 64 && allKnown ks) (λ _. checkedEnd (ended s ks)) (λ _. Refused 3 0))
-      (λ _. Refused 2 0))
+    (λ _. choose (leb (length ks) 64 && allKnown ks) (λ _. checkedEnd (ended s ks)) (λ _. Refused 3 0))
+    (λ _. Refused 2 0))

@@ -2,8 +2,10 @@
 // Ported from format_string.rs of datafusion-spark 55.2.0 (Apache-2.0; see NOTICE): Formatter::parse. The original keeps a
 // vector of elements; here a cursor reads the format again from an offset.
 use conversions::KindByte;
-use numerals::{NumericParam, Taken};
-use specifiers::{Element, Specifier};
+use numerals::NumericParam;
+use numerals::Taken;
+use specifiers::Element;
+use specifiers::Specifier;
 ghost use mathlib.Core.Path.{_≡_};
 ghost use Prim.Native.Nat.{_+_, _≤_, _<_, max};
 ghost use lib.ListN.{length, drop};
@@ -13,8 +15,14 @@ ghost use Rattle.parsing.specs.Check.{ended, isKnown, allKnown, checked}
 
 // The argument of an element: its index, the place behind it, and the running count.
 pub enum Index {
-    Named { argument: usize, next: usize, count: usize },
-    Refused { number: u8 },
+    Named {
+        argument: usize,
+        next: usize,
+        count: usize,
+    },
+    Refused {
+        number: u8,
+    },
 }
 
 // A piece: part of the format as it stands, a line's end, or an element.
@@ -156,7 +164,15 @@ fn used_by(c: Cursor, at: usize, count: usize, last: usize, argument: usize) -> 
 }
 
 // An element of an argument, read from a place on.
-fn take_element(fmt: &[u8], kinds: &[u8], c: Cursor, next: usize, argument: usize, count: usize, last: usize) -> Step
+fn take_element(
+    fmt: &[u8],
+    kinds: &[u8],
+    c: Cursor,
+    next: usize,
+    argument: usize,
+    count: usize,
+    last: usize,
+) -> Step
     requires { ⌜ (c .pieces < 512) × (1 ≤ argument) ⌝ }
     ensures { λ r. ⌜ r ≡ elementOf (now (fmt .entry)) (now (kinds .entry)) c next argument count last ⌝ }
 {
@@ -206,7 +222,11 @@ fn take_next(fmt: &[u8], kinds: &[u8], c: Cursor) -> Step
     let count = c.count;
     let index = take_index(fmt, at + 1, count);
     match index {
-        Index::Named { argument, next, count: counted } => take_element(fmt, kinds, c, next, argument, counted, argument),
+        Index::Named {
+            argument,
+            next,
+            count: counted,
+        } => take_element(fmt, kinds, c, next, argument, counted, argument),
         Index::Refused { number } => Step::Refused {
             number: number,
             place: at,

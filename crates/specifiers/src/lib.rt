@@ -1,7 +1,10 @@
 // What stands behind an element's index: flags, width, precision and letter.
 // Ported from format_string.rs of datafusion-spark 55.2.0 (Apache-2.0; see NOTICE): take_conversion_specifier.
-use conversions::{ConversionType, Letter, TimeLetter};
-use numerals::{NumericParam, Taken};
+use conversions::ConversionType;
+use conversions::Letter;
+use conversions::TimeLetter;
+use numerals::NumericParam;
+use numerals::Taken;
 ghost use mathlib.Core.Path.{_≡_};
 ghost use Prim.Native.Nat.{_<_};
 ghost use lib.ListN.{length, drop};
@@ -33,8 +36,13 @@ pub enum FlagsTaken {
 }
 
 pub enum LetterTaken {
-    Read { conversion: ConversionType, next: usize },
-    Refused { number: u8 },
+    Read {
+        conversion: ConversionType,
+        next: usize,
+    },
+    Refused {
+        number: u8,
+    },
 }
 
 // An element: the argument that it takes, and how it is printed.
@@ -222,7 +230,10 @@ fn letter_refusal(t: LetterTaken) -> Specifier
 {
     match t {
         LetterTaken::Refused { number } => Specifier::Refused { number: number },
-        LetterTaken::Read { conversion: _, next: _ } => Specifier::Refused { number: 0 },
+        LetterTaken::Read {
+            conversion: _,
+            next: _,
+        } => Specifier::Refused { number: 0 },
     }
 }
 
@@ -234,14 +245,26 @@ pub fn take_conversion_specifier(fmt: &[u8], at: usize, argument: usize, kind: u
     let FlagsTaken::Read { flags, next: w } = read else {
         return flags_refusal(read);
     };
-    let Taken::Param { param: width, next: p } = numerals::take_numeric_param(fmt, w, false) else {
+    let Taken::Param {
+        param: width,
+        next: p,
+    } = numerals::take_numeric_param(fmt, w, false)
+    else {
         return Specifier::Refused { number: 6 };
     };
-    let Taken::Param { param: precision, next: l } = take_precision(fmt, p) else {
+    let Taken::Param {
+        param: precision,
+        next: l,
+    } = take_precision(fmt, p)
+    else {
         return Specifier::Refused { number: 6 };
     };
     let letter = take_letter(fmt, l);
-    let LetterTaken::Read { conversion, next: end } = letter else {
+    let LetterTaken::Read {
+        conversion,
+        next: end,
+    } = letter
+    else {
         return letter_refusal(letter);
     };
     if conversions::validate(conversion, kind) {

@@ -80,7 +80,12 @@ pub fn is_well_formed(s: &[u8]) -> bool
     while i < s.len() {
         let b = s[i];
         if need == 0 {
-            let Lead::Follow { need: n, low: l, high: h } = lead_of(b) else {
+            let Lead::Follow {
+                need: n,
+                low: l,
+                high: h,
+            } = lead_of(b)
+            else {
                 return false;
             };
             need = n;

@@ -1,3 +1,4 @@
 pub mod Laid
 pub mod FromRight
 pub mod Backwards
+pub mod Choose

@@ -1,25 +1,21 @@
+-- `parsing::take_same` meets its contract. Assumes nothing.
+use native.Mathlib.Omega.{arith}
+use borrow.Author.Tests.{eq-eqb, ne-eqb}
 use borrow.Author.Needs.{needs}
 use Rattle.parsing.proofs.take_same.Statement.{statement}
 use Rattle.parsing.proofs.take_same.Tie as tie
-use Rattle.parsing.proofs.take_same.Reads as reads
-use Rattle.parsing.proofs.take_same.Lts as lts
-use Rattle.parsing.proofs.take_element.Reads as take-element-reads
 
--- src/lib.rt:444:9
 returns : tie.Need-returns
-returns c = search needs
+returns c = simp (eq-eqb _ _ (c .if1 .taken))
 
--- src/lib.rt:449:33
 add-take-element : tie.Need-add-take-element
 add-take-element c = search needs
 
--- src/lib.rt:449:5
 take-element-requires : tie.Need-take-element-requires
-take-element-requires c κs = search needs
+take-element-requires c κs = (c .before .before .before .pre .0, omega (arith, c .if1 .left))
 
--- src/lib.rt:436:1
 returns-2 : tie.Need-returns-2
-returns-2 c = search needs
+returns-2 c = simp (ne-eqb _ _ (c .before .if1 .left)) (c .take-element .ensures)
 
 pub take-same-spec : {M : Type 1} → statement M
 take-same-spec = tie.close (tie.spec returns add-take-element take-element-requires returns-2)

@@ -39,7 +39,7 @@ loop-less c = search needs
 -- one byte more
 turn : (c : tie.After-with-flag Inv-loop μ-loop)
     → afterFlag (c .with-flag .result) (flagsFrom (drop (c .before .before .before .loop .i + 1) (c .before .before .before .before .before .before .args .fmt .now)) (c .before .before .before .loop .i + 1)) (c .before .before .before .loop .i) (c .before .before .before .loop .flags)
-      ≡ flagsFrom (drop (c .before .before .before .before .before .before .args .at) (c .before .before .before .before .before .before .args .fmt .now)) (c .before .before .before .before .before .before .args .at) noFlags
+    ≡ flagsFrom (drop (c .before .before .before .before .before .before .args .at) (c .before .before .before .before .before .before .args .fmt .now)) (c .before .before .before .before .before .before .args .at) noFlags
 turn c =
     let l = c .before .before .before .loop in
     let s = c .before .before .before .before .before .before .args .fmt .now in

@@ -55,13 +55,12 @@ loop-less c = search needs
 
 loop-again : tie.Need-loop-again Inv-loop μ-loop
 loop-again c =
-    let l = c .before .before .before .loop in
-    (
+    let l = c .before .before .before .loop in (
       omega arith,
       ⊎-elim
-      (λ w. simp (w .5, w .6, w .7) (record { decides = simp (← w .1 .ensures, w .3 .given .1) at (at-lead (l .inv .1) (omega arith) (w .0 .taken)) }))
-      (λ w. simp (w .3, w .4, w .5) (record { decides = simp (inside (l .low) (l .high) _ (w .1 .left) (w .2 .left)) at (at-follower (l .inv .1) (omega arith) (w .0 .left)) }))
-      (c .if1 .came),
+          (λ w. simp (w .5, w .6, w .7) (record { decides = simp (← w .1 .ensures, w .3 .given .1) at (at-lead (l .inv .1) (omega arith) (w .0 .taken)) }))
+          (λ w. simp (w .3, w .4, w .5) (record { decides = simp (inside (l .low) (l .high) _ (w .1 .left) (w .2 .left)) at (at-follower (l .inv .1) (omega arith) (w .0 .left)) }))
+          (c .if1 .came),
     )
 
 returns-4 : tie.Need-returns-4 Inv-loop μ-loop
