@@ -1,2 +1,4 @@
 pub mod Pieces
 pub mod Check
+pub mod Listed
+pub mod Causes
