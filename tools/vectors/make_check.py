@@ -356,8 +356,6 @@ def readings_on_wholes(r):
     r.named("%q", [8], "no", 3, 0)
     r.named("%$", [3] * 65, "no", 3, 0)
     r.named(b"\xff" * 4097, [], "no", 1, 0)
-    r.named(b"%" + b"q" * 4096, [0], "no", 1, 0)
-    r.named(full + "x" * 3072, [3], "no", 13, 1024)
 
 
 # ---------------------------------------------------------------------------------------------------------------------------------------------
@@ -370,9 +368,8 @@ def letters(r):
             r.add("a%-9.3" + letter, [kind])
     for byte in range(128):
         r.add(b"%" + bytes([byte]), [3])
-    for byte in range(128):
+    for byte in range(32, 127):
         r.add(b"%1$" + bytes([byte]) + b"d", [3])
-    for byte in range(33, 127):
         r.add(b"%t" + bytes([byte]), [4])
         r.add(b"%T" + bytes([byte]), [6])
         r.add(b"%d%<" + bytes([byte]), [6 if byte % 2 else 1])
@@ -429,7 +426,7 @@ def same(r):
 
 
 def pieces(r):
-    for fmt, each in (("x%1$d", 2), ("%s", 1), ("%n", 1), ("%%%n", 2)):
+    for fmt, each in (("x%1$d", 2), ("%n", 1)):
         for count in (511, 512, 513):
             r.add(fmt * (count // each) + ("y" if count % each else ""), [4] * 64)
     r.add("%1$s" * 511 + "é", [4])
@@ -442,11 +439,9 @@ def pieces(r):
 def lengths(r):
     for n in (4095, 4096, 4097):
         r.add("x" * (n - 2) + "%d", [3])
-    r.add("x" * 4096, [])
-    r.add("x" * 4095 + "%", [3])
     r.add("x" * 4094 + "é", [])
     r.add(b"x" * 4095 + b"\xc3", [3])
-    r.add(b"x" * 4096 + b"\xc3", [0])
+    r.add(b"x" * 4097, [0])
     r.add("%" + "0" * 4094 + "d", [3])
     r.add("%." + "9" * 4093 + "d", [3])
 
@@ -496,7 +491,7 @@ def generated(r):
         r.add("".join(chance.of(short) for _ in range(1 + chance.below(9))), chance.of(lists))
     for _ in range(250):
         r.add("%" + "".join(chance.of(short[2:]) for _ in range(chance.below(5))) + chance.of("dxs"), chance.of(lists[1:]))
-    for _ in range(250):
+    for _ in range(200):
         r.add("".join(chance.of(parts) for _ in range(2 + chance.below(8))), chance.of(lists[2:]))
     for _ in range(100):
         r.add(bytes(chance.of((37, 100, 49, 36, 195, 169, 226, 130, 172)) for _ in range(1 + chance.below(7))), [3, 3])

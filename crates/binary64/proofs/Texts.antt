@@ -12,16 +12,11 @@ use lib.Seq.{sets, sets-eq}
 use borrow.Author.Tests.{lt-ltb, le-ltb}
 use borrow.Rule.Slice.PartMut.{putMid, midOf}
 use Rattle.writing.specs.Laid.{laid}
-use Rattle.writing.proofs.Laid.{laid-next}
+use Rattle.writing.proofs.Laid.{laid-stores, laid-next}
 use Rattle.numerals.specs.Digits.{digitsIn, places, digits, lettersOf, numeral, decimal}
 use Rattle.numerals.proofs.Digits.{length-letters, length-digitsIn, length-numeral, places-le}
 use Rattle.binary64.specs.declared.HexFloat.{HexFloat}
 use Rattle.binary64.specs.HexFloat.{leadingDigit, exponentLetter, exponentText, hexFloatText}
-
--- bytes stored one by one from the start on
-pub laid-stores : (d t : List ℕ) → length t ≤ length d → sets d 0 t ≡ laid d t
-unfolding laid
-laid-stores d t h = let k : 0 + length t ≤ length d = omega arith in sets-eq t d 0 k ∙ simp zero-add
 
 -- a number of 32 bits has at most ten digits
 pub ten-places : (n : ℕ) → n < 2 ^ 32 → places 10 n ≤ 10

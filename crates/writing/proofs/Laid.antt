@@ -2,11 +2,11 @@
 use mathlib.Core.Path.{_≡_, refl, sym, ap, _∙_}
 use mathlib.Core.List.{List, [], _∷_, _++_, append-assoc, append-nil}
 use Prim.Native.Nat.{ℕ, suc, _+_, _-_, _≤_, _<_}
-use native.Mathlib.Nat.{le-of-eq}
+use native.Mathlib.Nat.{le-of-eq, zero-add}
 use native.Mathlib.Numerals.{add-one}
 use native.Mathlib.Omega.{arith}
 use lib.ListN.{length, getD, take, drop, set, replicate, length-append, length-drop, length-replicate, drop-of-length-le, replicate-append-replicate}
-use lib.Seq.{drop-cons, take-append-seam, drop-append-seam, drop-drop, take-suc, length-take-le, set-at, take-all}
+use lib.Seq.{drop-cons, take-append-seam, drop-append-seam, drop-drop, take-suc, length-take-le, set-at, take-all, sets, sets-eq}
 use borrow.Rule.Slice.PartMut.{putMid, midOf}
 use Rattle.writing.specs.Laid.{laid}
 
@@ -28,6 +28,11 @@ laid-more d t n b e h =
 -- the first byte
 pub laid-first : (d : List ℕ) (b : ℕ) → 0 < length d → set d 0 b ≡ laid d (b ∷ [])
 laid-first d b h = ap (λ (l : List ℕ). set l 0 b) (sym (laid-none d)) ∙ laid-more d [] 0 b refl h
+
+-- bytes stored one after the other
+pub laid-stores : (d t : List ℕ) → length t ≤ length d → sets d 0 t ≡ laid d t
+unfolding laid
+laid-stores d t h = let k : 0 + length t ≤ length d = omega arith in sets-eq t d 0 k ∙ simp zero-add
 
 -- a turn of a copy, and of a fill
 pub copy-step : (d s : List ℕ) (i : ℕ) → i < length s → length s ≤ length d → set (laid d (take i s)) i (getD s i 0) ≡ laid d (take (i + 1) s)

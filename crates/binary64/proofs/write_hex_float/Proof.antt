@@ -6,11 +6,11 @@ use native.Mathlib.Omega.{arith}
 use lib.ListN.{length, set, replicate, length-set, length-append, length-replicate}
 use borrow.Author.Needs.{needs}
 use Rattle.writing.specs.Laid.{laid}
-use Rattle.writing.proofs.Laid.{laid-next, length-laid}
+use Rattle.writing.proofs.Laid.{laid-stores, laid-next, length-laid}
 use Rattle.numerals.specs.Digits.{digitsIn, lettersOf}
 use Rattle.numerals.proofs.Digits.{length-letters, length-digitsIn}
 use Rattle.binary64.specs.HexFloat.{exponentText, hexFloatText}
-use Rattle.binary64.proofs.Texts.{laid-stores, hex-length, hex-written}
+use Rattle.binary64.proofs.Texts.{hex-length, hex-written}
 use Rattle.binary64.proofs.write_hex_float.Statement.{statement}
 use Rattle.binary64.proofs.write_hex_float.Tie as tie
 

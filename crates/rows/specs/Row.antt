@@ -1,0 +1,94 @@
+-- The row of values. 01: "Sizes first: n, 2 bytes, 0 to 64; t, 4 bytes, 0 to 32,768. Then two parallel arrays: n kind bytes and n values of 8
+-- bytes. Then t bytes of text. All little-endian, length exactly 6 + 9n + t."
+use Prim.Native.Nat.{ℕ, zero, suc, _+_, _-_, _*_, _/_, _%_, _^_, _≤_}
+use mathlib.Core.Bool.{Bool, true, false, _&&_, _||_}
+use mathlib.Core.List.{List, [], _∷_}
+use lib.Dec.{leb, ltb, eqb}
+use lib.ListN.{length, getD, take, drop}
+use Rattle.writing.specs.Choose.{choose}
+use Rattle.utf8.specs.Utf8.{wellFormed}
+use Rattle.conversions.specs.Kinds.{kindOf}
+use Rattle.conversions.specs.declared.Kind.{Kind}
+use Rattle.conversions.specs.declared.Kind.the-variants as K
+use Rattle.conversions.specs.declared.KindByte.{KindByte}
+use Rattle.conversions.specs.declared.KindByte.the-variants.{Known, Unknown}
+use Rattle.rows.specs.declared.RowRead.{RowRead}
+use Rattle.rows.specs.declared.RowRead.the-variants.{Row, Broken}
+use Rattle.rows.specs.Numbers.{numberAt}
+
+-- n and t
+abbrev pub countOf : List ℕ → ℕ
+countOf row = numberAt 2 row 0
+
+abbrev pub textSize : List ℕ → ℕ
+textSize row = numberAt 4 row 2
+
+-- The kind bytes, the text, and, of the argument with the index a (from 1), its kind byte and its value.
+abbrev pub kindsOf : List ℕ → List ℕ
+kindsOf row = take (countOf row) (drop 6 row)
+
+abbrev pub textOf : List ℕ → List ℕ
+textOf row = drop (6 + 9 * countOf row) row
+
+abbrev pub kindByteOf : List ℕ → ℕ → ℕ
+kindByteOf row a = getD row (5 + a) 0
+
+abbrev pub valueOf : List ℕ → ℕ → ℕ
+valueOf row a = numberAt 8 row (6 + countOf row + 8 * (a - 1))
+
+-- "128 added .. means null"
+abbrev pub isNull : ℕ → Bool
+isNull k = leb 128 k
+
+-- "7 text (low 4 bytes offset, high 4 bytes length ..)": the part of the text area.
+abbrev pub partOf : List ℕ → ℕ → List ℕ
+partOf text v = take (v / 2 ^ 32) (drop (v % 2 ^ 32) text)
+
+-- The values of each kind: integers "sign-extended, within the kind"; every pattern of a float; "Boolean (0 or 1)"; a text whose offset and length
+-- have a "sum at most t, well-formed UTF-8".
+abbrev pub holds : Kind → List ℕ → ℕ → Bool
+holds (K.Signed w) text v = ltb v (2 ^ (w - 1)) || leb (2 ^ 64 - 2 ^ (w - 1)) v
+holds K.Float64 text v = true
+holds K.Boolean text v = leb v 1
+holds K.Text text v = leb (v % 2 ^ 32 + v / 2 ^ 32) (length text) && wellFormed (partOf text v)
+
+-- An integer kind has a width from 1 to 64.
+abbrev pub HasWidth : Kind → Type 0
+HasWidth (K.Signed w) = (1 ≤ w) × (w ≤ 64)
+HasWidth K.Float64 = Unit {0}
+HasWidth K.Boolean = Unit {0}
+HasWidth K.Text = Unit {0}
+
+-- "128 added to kinds 1 to 4 or 6 means null, with value 0."
+abbrev pub canBeNull : Kind → Bool
+canBeNull (K.Signed w) = true
+canBeNull K.Float64 = false
+canBeNull K.Boolean = true
+canBeNull K.Text = false
+
+-- A kind byte with its value.
+abbrev pub entryOf : KindByte → Bool → List ℕ → ℕ → Bool
+entryOf Unknown null text v = false
+entryOf (Known k) true text v = canBeNull k && eqb v 0
+entryOf (Known k) false text v = holds k text v
+
+unfoldable pub entryAt : List ℕ → ℕ → Bool
+entryAt row a = entryOf (kindOf (kindByteOf row a % 128)) (isNull (kindByteOf row a)) (textOf row) (valueOf row a)
+
+-- The entries from the argument a on, k of them.
+unfoldable pub entriesFrom : ℕ → List ℕ → ℕ → Bool
+entriesFrom zero row a = true
+entriesFrom (suc k) row a = entryAt row a && entriesFrom k row (a + 1)
+
+-- That a row keeps its layout; a row that does not is 14.
+unfoldable pub isRow : List ℕ → Bool
+isRow row =
+    leb 6 (length row)
+    && leb (countOf row) 64
+    && leb (textSize row) 32768
+    && eqb (length row) (6 + 9 * countOf row + textSize row)
+    && entriesFrom (countOf row) row 1
+
+-- The answer of reading a row.
+unfoldable pub rowOf : List ℕ → RowRead
+rowOf row = choose (isRow row) (λ _. Row (countOf row)) (λ _. Broken)

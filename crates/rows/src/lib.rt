@@ -1,0 +1,150 @@
+// The row of values: its layout tested, and the kind and value of each argument.
+use conversions::{Kind, KindByte};
+ghost use mathlib.Core.Path.{_≡_};
+ghost use mathlib.Core.List.{[]};
+ghost use Prim.Native.Nat.{_+_, _*_, _%_, _≤_, _<_};
+ghost use Rattle.conversions.specs.Kinds.{kindOf};
+ghost use lib.ListN.{length};
+ghost use Rattle.rows.specs.Numbers.{numberAt};
+ghost use Rattle.rows.specs.Row.{countOf, isNull, HasWidth, holds, canBeNull, entryOf, entriesFrom, rowOf};
+
+fn wide(b: u8) -> u64
+    ensures { λ r. ⌜ (r ≡ b) × (r < 256) ⌝ }
+{
+    b as u64
+}
+
+// Two bytes as a number.
+fn number2(s: &[u8], at: usize) -> u64
+    requires { ⌜ at + 2 ≤ length (now s) ⌝ }
+    ensures { λ r. ⌜ (r ≡ numberAt 2 (now (s .entry)) at) × (r < 65536) ⌝ }
+{
+    wide(s[at]) + 256 * wide(s[at + 1])
+}
+
+// Four bytes as a number.
+fn number4(s: &[u8], at: usize) -> u64
+    requires { ⌜ at + 4 ≤ length (now s) ⌝ }
+    ensures { λ r. ⌜ (r ≡ numberAt 4 (now (s .entry)) at) × (r < 4294967296) ⌝ }
+{
+    number2(s, at) + 65536 * number2(s, at + 2)
+}
+
+// Eight bytes as a number.
+pub fn number8(s: &[u8], at: usize) -> u64
+    requires { ⌜ at + 8 ≤ length (now s) ⌝ }
+    ensures { λ r. ⌜ r ≡ numberAt 8 (now (s .entry)) at ⌝ }
+{
+    number4(s, at) + 4294967296 * number4(s, at + 4)
+}
+
+// Whether a value is a signed integer of this width, sign-extended to 64 bits.
+fn is_signed(width: u32, value: u64) -> bool
+    requires { ⌜ (1 ≤ width) × (width ≤ 64) ⌝ }
+    ensures { λ r. ⌜ r ≡ holds (Kind.Signed width) [] value ⌝ }
+{
+    let half = 1u64 << (width - 1);
+    if value < half {
+        return true;
+    }
+    std::num::wrapping_sub_u64(0, half) <= value
+}
+
+// Whether a value names a part of the text area that is well-formed UTF-8.
+fn is_part(text: &[u8], value: u64) -> bool
+    ensures { λ r. ⌜ r ≡ holds Kind.Text (now (text .entry)) value ⌝ }
+{
+    let offset = (value % 4294967296) as usize;
+    let len = (value / 4294967296) as usize;
+    if text.len() < offset + len {
+        return false;
+    }
+    utf8::is_well_formed(&text[offset..offset + len])
+}
+
+// Whether a value is one of its kind; text is the row's text area.
+fn is_value(kind: Kind, text: &[u8], value: u64) -> bool
+    requires { ⌜ HasWidth kind ⌝ }
+    ensures { λ r. ⌜ r ≡ holds kind (now (text .entry)) value ⌝ }
+{
+    match kind {
+        Kind::Signed(width) => is_signed(width, value),
+        Kind::Float64 => true,
+        Kind::Boolean => value <= 1,
+        Kind::Text => is_part(text, value),
+    }
+}
+
+fn can_be_null(kind: Kind) -> bool
+    ensures { λ r. ⌜ r ≡ canBeNull kind ⌝ }
+{
+    match kind {
+        Kind::Signed(_) => true,
+        Kind::Float64 => false,
+        Kind::Boolean => true,
+        Kind::Text => false,
+    }
+}
+
+// Whether a kind byte and a value make an entry.
+fn is_entry(byte: u8, text: &[u8], value: u64) -> bool
+    ensures { λ r. ⌜ r ≡ entryOf (kindOf (byte % 128)) (isNull byte) (now (text .entry)) value ⌝ }
+{
+    let KindByte::Known(kind) = conversions::kind_of(byte % 128) else {
+        return false;
+    };
+    if byte < 128 {
+        return is_value(kind, text, value);
+    }
+    if value == 0 {
+        return can_be_null(kind);
+    }
+    false
+}
+
+// Whether the n entries of a row are entries.
+fn are_entries(row: &[u8], n: usize) -> bool
+    requires { ⌜ (n ≤ 64) × (n ≡ countOf (now row)) × (6 + 9 * n ≤ length (now row)) ⌝ }
+    ensures { λ r. ⌜ r ≡ entriesFrom n (now (row .entry)) 1 ⌝ }
+{
+    let text = 6 + 9 * n;
+    let mut i = 0;
+    while i < n {
+        let value = number8(row, 6 + n + 8 * i);
+        if !is_entry(row[6 + i], &row[text..], value) {
+            return false;
+        }
+        i = i + 1;
+    }
+    true
+}
+
+// A row that keeps its layout, with its count of arguments; any other is refused with 14.
+pub enum RowRead {
+    Row { count: usize },
+    Broken,
+}
+
+pub fn read_row(row: &[u8]) -> RowRead
+    ensures { λ r. ⌜ r ≡ rowOf (now (row .entry)) ⌝ }
+{
+    if row.len() < 6 {
+        return RowRead::Broken;
+    }
+    let n = number2(row, 0);
+    let t = number4(row, 2);
+    if 64 < n {
+        return RowRead::Broken;
+    }
+    if 32768 < t {
+        return RowRead::Broken;
+    }
+    let count = n as usize;
+    if row.len() != 6 + 9 * count + t as usize {
+        return RowRead::Broken;
+    }
+    if are_entries(row, count) {
+        return RowRead::Row { count: count };
+    }
+    RowRead::Broken
+}

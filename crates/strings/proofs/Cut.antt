@@ -1,0 +1,58 @@
+-- How a cut falls back, and capitals. Assumes nothing.
+use mathlib.Core.Path.{_≡_, refl}
+use mathlib.Core.Bool.{true, false}
+use mathlib.Core.List.{List, [], _∷_, map}
+use Prim.Native.Nat.{ℕ, zero, suc, _-_, _≤_, _<_}
+use native.Mathlib.Omega.{arith}
+use lib.Dec.{ltb}
+use lib.ListN.{length, getD}
+use borrow.Author.Tests.{le-leb, lt-leb, ltb-true, ltb-false}
+use Rattle.writing.proofs.Choose.{by-test}
+use Rattle.strings.specs.Cut.{continues, backTo, cutLength, capital}
+
+module _ (s : List ℕ) where
+  pub back-start : (n : ℕ) → 0 < n → (continues (getD s n 0) ≡ false) → backTo n s ≡ n
+  unfolding backTo
+  back-start zero h e = refl
+  back-start (suc n) h e = simp e
+
+  pub back-inside : (n : ℕ) → 0 < n → (continues (getD s n 0) ≡ true) → backTo n s ≡ backTo (n - 1) s
+  unfolding backTo
+  back-inside zero h e = refl
+  back-inside (suc n) h e = let m : suc n - 1 ≡ n = omega arith in simp (e, m)
+
+  back-within : (n : ℕ) → backTo n s ≤ n
+  unfolding backTo
+  back-within zero = omega arith
+  back-within (suc n) = by-test (λ (k : ℕ). k ≤ suc n) (continues (getD s (suc n) 0)) _ _ (λ _. less (back-within n)) (λ _. omega arith)
+    where
+      less : backTo n s ≤ n → backTo n s ≤ suc n
+      less h = omega arith
+
+  -- a cut leaves no more than there is, and no more than was asked
+  pub cut-within : (n : ℕ) → (cutLength n s ≤ length s) × (cutLength n s ≤ n)
+  unfolding cutLength
+  cut-within n =
+      by-test (λ (k : ℕ). (k ≤ length s) × (k ≤ n)) (ltb n (length s)) _ _
+      (λ h. shorter (ltb-true n (length s) h) (back-within n)) (λ h. longer (ltb-false n (length s) h))
+    where
+      shorter : n < length s → backTo n s ≤ n → (backTo n s ≤ length s) × (backTo n s ≤ n)
+      shorter h k = (omega arith, k)
+
+      longer : length s ≤ n → (length s ≤ length s) × (length s ≤ n)
+      longer h = (omega arith, h)
+
+pub starts-below : (b : ℕ) → b < 128 → continues b ≡ false
+starts-below b h = simp (lt-leb 128 b h)
+
+pub starts-above : (b : ℕ) → 128 ≤ b → 191 < b → continues b ≡ false
+starts-above b h k = simp (le-leb 128 b h, lt-leb b 191 k)
+
+pub goes-on : (b : ℕ) → 128 ≤ b → b ≤ 191 → continues b ≡ true
+goes-on b h k = simp (le-leb 128 b h, le-leb b 191 k)
+
+-- capitals, byte by byte
+pub upper-at : (t : List ℕ) (i : ℕ) → i < length t → getD (map capital t) i 0 ≡ capital (getD t i 0)
+upper-at [] i h = absurd (omega arith)
+upper-at (b ∷ t) zero h = refl
+upper-at (b ∷ t) (suc i) h = upper-at t i (omega arith)

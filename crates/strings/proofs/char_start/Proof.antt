@@ -1,0 +1,73 @@
+-- `strings::char_start` meets its contract. The loop's invariant: the cut falls back from i to where it falls back from n. Assumes nothing.
+use Prim.Native.Nat.{ℕ, _≤_}
+use mathlib.Core.Path.{_≡_, refl, sym, ap, _∙_}
+use lib.ListN.{getD}
+use native.Mathlib.Omega.{arith}
+use Rattle.strings.specs.Cut.{backTo}
+use Rattle.strings.proofs.Cut.{back-start, back-inside, starts-below, starts-above, goes-on}
+use borrow.Author.Needs.{needs}
+use Rattle.strings.proofs.char_start.Statement.{statement}
+use Rattle.strings.proofs.char_start.Tie as tie
+
+abbrev Inv-loop : tie.InvT-loop
+Inv-loop s n i₀ i = (i ≤ n) × (backTo i s ≡ backTo n s)
+
+abbrev μ-loop : tie.MeasureT-loop
+μ-loop s n i₀ i = i
+
+loop-holds : tie.Need-loop-holds Inv-loop μ-loop
+loop-holds c = (search needs, refl)
+
+shared-slice-read-if1 : tie.Need-shared-slice-read-if1 Inv-loop μ-loop
+shared-slice-read-if1 c = search needs
+
+returns : tie.Need-returns Inv-loop μ-loop
+returns c =
+    let l = c .before .before .before .loop in
+    let s = c .before .before .before .before .args .s .now in
+    sym (back-start s (l .i) (omega arith) (starts-below (getD s (l .i) 0) (c .if1 .taken))) ∙ l .inv .1
+
+shared-slice-read-if2 : tie.Need-shared-slice-read-if2 Inv-loop μ-loop
+shared-slice-read-if2 c = search needs
+
+returns-2 : tie.Need-returns-2 Inv-loop μ-loop
+returns-2 c =
+    let l = c .before .before .before .before .before .loop in
+    let s = c .before .before .before .before .before .before .args .s .now in
+    sym (back-start s (l .i) (omega arith) (starts-above (getD s (l .i) 0) (c .before .before .if1 .left) (c .if2 .taken))) ∙ l .inv .1
+
+sub-i : tie.Need-sub-i Inv-loop μ-loop
+sub-i c = search needs
+
+loop-less : tie.Need-loop-less Inv-loop μ-loop
+loop-less c = search needs
+
+loop-again : tie.Need-loop-again Inv-loop μ-loop
+loop-again c =
+    let l = c .before .before .before .before .before .loop in
+    let s = c .before .before .before .before .before .before .args .s .now in
+    (omega arith, sym (back-inside s (l .i) (omega arith) (goes-on (getD s (l .i) 0) (c .before .before .if1 .left) (c .if2 .left))) ∙ l .inv .1)
+
+returns-3 : tie.Need-returns-3 Inv-loop μ-loop
+unfolding backTo
+returns-3 c =
+    let l = c .before .loop in
+    let s = c .before .before .args .s .now in
+    let e : l .i ≡ 0 = omega arith in
+    e ∙ sym (ap (λ (k : ℕ). backTo k s) e) ∙ l .inv .1
+
+pub char-start-spec : {M : Type 1} → statement M
+char-start-spec =
+    tie.close
+    (tie.spec
+    Inv-loop
+    μ-loop
+    loop-holds
+    shared-slice-read-if1
+    returns
+    shared-slice-read-if2
+    returns-2
+    sub-i
+    loop-less
+    loop-again
+    returns-3)

@@ -1,0 +1,120 @@
+// Text values: cut to a precision, in capitals, and characters by number.
+// Ported from format_string.rs of datafusion-spark 55.2.0 (Apache-2.0; see NOTICE): the cut of format_str, the capitals of
+// format_string, and codepoint_to_char with the encoding of format_char.
+ghost use mathlib.Core.Path.{_≡_};
+ghost use mathlib.Core.List.{map};
+ghost use Prim.Native.Nat.{_≤_, _<_};
+ghost use lib.ListN.{length};
+ghost use Rattle.writing.specs.Laid.{laid};
+ghost use Rattle.strings.specs.Cut.{backTo, cutLength, capital};
+ghost use Rattle.strings.specs.Scalars.{isScalar, utf8Of};
+
+// The last place up to n that does not stand inside a character.
+fn char_start(s: &[u8], n: usize) -> usize
+    requires { ⌜ n < length (now s) ⌝ }
+    ensures { λ r. ⌜ r ≡ backTo n (now (s .entry)) ⌝ }
+{
+    let mut i = n;
+    while 0 < i {
+        if s[i] < 128 {
+            return i;
+        }
+        if 191 < s[i] {
+            return i;
+        }
+        i = i - 1;
+    }
+    i
+}
+
+// How many bytes of s are left at a precision of n.
+pub fn cut_len(s: &[u8], n: usize) -> usize
+    ensures { λ r. ⌜ r ≡ cutLength n (now (s .entry)) ⌝ }
+{
+    if n < s.len() {
+        return char_start(s, n);
+    }
+    s.len()
+}
+
+// A small letter as a capital, any other byte as it is.
+pub fn to_upper(b: u8) -> u8
+    ensures { λ r. ⌜ r ≡ capital b ⌝ }
+{
+    if b < 97 {
+        return b;
+    }
+    if 122 < b {
+        return b;
+    }
+    b - 32
+}
+
+// Copies the text in capitals. Answers its length.
+pub fn write_upper(out: &mut [u8], text: &[u8]) -> usize
+    requires { ⌜ length (now text) ≤ length (now out) ⌝ }
+    ensures { λ r. ⌜ (r ≡ length (now (text .entry))) × (now (out .exit) ≡ laid (now (out .entry)) (map capital (now (text .entry)))) ⌝ }
+{
+    let mut i = 0;
+    while i < text.len() {
+        out[i] = to_upper(text[i]);
+        i = i + 1;
+    }
+    i
+}
+
+// Whether a number is a Unicode scalar value.
+pub fn is_scalar(c: u64) -> bool
+    ensures { λ r. ⌜ r ≡ isScalar c ⌝ }
+{
+    if c < 0xd800 {
+        return true;
+    }
+    if c < 0xe000 {
+        return false;
+    }
+    c <= 0x10ffff
+}
+
+// How many bytes a scalar value has in UTF-8.
+pub fn scalar_len(c: u32) -> usize
+    ensures { λ r. ⌜ r ≡ length (utf8Of c) ⌝ }
+{
+    if c < 0x80 {
+        return 1;
+    }
+    if c < 0x800 {
+        return 2;
+    }
+    if c < 0x10000 {
+        return 3;
+    }
+    4
+}
+
+// Writes the UTF-8 bytes of a scalar value. Answers how many these are.
+pub fn write_scalar(out: &mut [u8], c: u32) -> usize
+    requires { ⌜ (c ≤ 0x10ffff) × (length (utf8Of c) ≤ length (now out)) ⌝ }
+    ensures { λ r. ⌜ (r ≡ length (utf8Of c)) × (now (out .exit) ≡ laid (now (out .entry)) (utf8Of c)) ⌝ }
+{
+    if c < 0x80 {
+        out[0] = c as u8;
+        return 1;
+    }
+    if c < 0x800 {
+        out[0] = (192 + c / 64) as u8;
+        out[1] = (128 + c % 64) as u8;
+        return 2;
+    }
+    if c < 0x10000 {
+        out[0] = (224 + c / 4096) as u8;
+        out[1] = (128 + c / 64 % 64) as u8;
+        out[2] = (128 + c % 64) as u8;
+        return 3;
+    }
+    out[0] = (240 + c / 262144) as u8;
+    out[1] = (128 + c / 4096 % 64) as u8;
+    out[2] = (128 + c / 64 % 64) as u8;
+    out[3] = (128 + c % 64) as u8;
+    4
+}
