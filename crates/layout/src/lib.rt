@@ -3,7 +3,7 @@
 // format_unsigned, format_str and format_hex_float.
 ghost use mathlib.Core.Path.{_≡_};
 ghost use mathlib.Core.List.{List, _++_};
-ghost use Prim.Native.Nat.{ℕ, _+_, _-_, _≤_};
+ghost use Prim.Native.Nat.{_+_, _^_, _≤_, _<_};
 ghost use lib.ListN.{length};
 ghost use Rattle.writing.specs.Laid.{laid};
 ghost use Rattle.layout.specs.Frame.{byteText, openingByte, closingByte, prefixZero, prefixLetter, marks, headText, tailText, spare, frameOf};
@@ -142,10 +142,11 @@ fn write_marks(out: &mut [u8], mark: Mark, prefix: Prefix) -> usize
 }
 
 // What is left of the width beside mark, prefix and a text of n.
-fn spare_width(width: u32, mark: Mark, prefix: Prefix, n: u32) -> u32
+fn spare_width(width: u32, mark: Mark, prefix: Prefix, n: u64) -> u32
+    requires { ⌜ n < 2 ^ 40 ⌝ }
     ensures { λ r. ⌜ r ≡ spare width mark prefix n ⌝ }
 {
-    let taken = marks_len(mark, prefix) + (n as u64) + byte_len(closing_byte(mark));
+    let taken = marks_len(mark, prefix) + n + byte_len(closing_byte(mark));
     let whole = width as u64;
     if whole <= taken {
         return 0;
@@ -153,8 +154,9 @@ fn spare_width(width: u32, mark: Mark, prefix: Prefix, n: u32) -> u32
     (whole - taken) as u32
 }
 
-// The frame that brings a text of n to the width; a width of 0 pads nothing.
-pub fn frame_for(width: u32, adjust: Adjust, mark: Mark, prefix: Prefix, n: u32) -> Frame
+// The frame that brings a text of n to the width; a width of 0 pads nothing. No text comes near the bound on n.
+pub fn frame_for(width: u32, adjust: Adjust, mark: Mark, prefix: Prefix, n: u64) -> Frame
+    requires { ⌜ n < 2 ^ 40 ⌝ }
     ensures { λ r. ⌜ r ≡ frameOf width adjust mark prefix n ⌝ }
 {
     let rest = spare_width(width, mark, prefix, n);

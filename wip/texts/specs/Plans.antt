@@ -35,14 +35,14 @@ use Rattle.specifiers.specs.declared.Flags.{Flags}
 use Rattle.specifiers.specs.declared.Element.{Element}
 use Rattle.strings.specs.Cut.{cutLength}
 use Rattle.strings.specs.Scalars.{isScalar, utf8Of}
-use Rattle.texts.specs.Bodies.{wordText, signedText}
+use Rattle.bodies.specs.Bodies.{wordText, signedText}
 use Rattle.texts.specs.declared.Style.{Style}
 use Rattle.texts.specs.declared.Style.the-variants.{Decimal, Octals, Hexadecimal, Character, Plain, HexFloat, Truth, NotPrinted}
-use Rattle.texts.specs.declared.Word.{Word}
-use Rattle.texts.specs.declared.Word.the-variants.{Null, True, False, NotANumber, Infinity}
-use Rattle.texts.specs.declared.Body.{Body}
-use Rattle.texts.specs.declared.Body.the-variants as B
-use Rattle.texts.specs.declared.Plan.{Plan}
+use Rattle.bodies.specs.declared.Word.{Word}
+use Rattle.bodies.specs.declared.Word.the-variants.{Null, True, False, NotANumber, Infinity}
+use Rattle.bodies.specs.declared.Body.{Body}
+use Rattle.bodies.specs.declared.Body.the-variants as B
+use Rattle.bodies.specs.declared.Plan.{Plan}
 use Rattle.texts.specs.declared.Planned.{Planned}
 use Rattle.texts.specs.declared.Planned.the-variants.{Laid, Stops}
 

@@ -1,0 +1,4 @@
+mod Numbers
+mod Widths
+mod Entries
+pub mod Rows

@@ -1,0 +1,108 @@
+-- `rows::are_entries` meets its contract. The loop's invariant: the entries from i + 1 on decide. Assumes nothing.
+use Prim.Native.Nat.{ℕ, _+_, _-_, _≤_}
+use mathlib.Core.Path.{_≡_, sym, ap, _∙_}
+use mathlib.Core.Bool.{Bool, _&&_}
+use native.Mathlib.Nat.{sub-zero}
+use native.Mathlib.Omega.{arith}
+use borrow.Author.Tests.{not-true, not-false}
+use Rattle.rows.specs.Row.{entriesFrom}
+use Rattle.rows.proofs.Entries.{entry-read, entries-next, entries-none}
+use borrow.Author.Needs.{needs}
+use Rattle.rows.proofs.are_entries.Statement.{statement}
+use Rattle.rows.proofs.are_entries.Tie as tie
+
+abbrev Inv-loop : tie.InvT-loop
+Inv-loop row n text i₀ i = (i ≤ n) × (entriesFrom (n - i) row (i + 1) ≡ entriesFrom n row 1)
+
+abbrev μ-loop : tie.MeasureT-loop
+μ-loop row n text i₀ i = n - i
+
+mul-text : tie.Need-mul-text Inv-loop μ-loop
+mul-text c = search needs
+
+add-text : tie.Need-add-text Inv-loop μ-loop
+add-text c = search needs
+
+loop-holds : tie.Need-loop-holds Inv-loop μ-loop
+loop-holds c = (omega arith, ap (λ (k : ℕ). entriesFrom k (c .before .args .row .now) 1) (sub-zero (c .before .args .n)))
+
+add-number8 : tie.Need-add-number8 Inv-loop μ-loop
+add-number8 c = search needs
+
+mul-number8 : tie.Need-mul-number8 Inv-loop μ-loop
+mul-number8 c = search needs
+
+add-number8-2 : tie.Need-add-number8-2 Inv-loop μ-loop
+add-number8-2 c = search needs
+
+number8-requires : tie.Need-number8-requires Inv-loop μ-loop
+number8-requires c κs = search needs
+
+add-is-entry : tie.Need-add-is-entry Inv-loop μ-loop
+add-is-entry c = search needs
+
+shared-slice-read-is-entry : tie.Need-shared-slice-read-is-entry Inv-loop μ-loop
+shared-slice-read-is-entry c = search needs
+
+sub-is-entry : tie.Need-sub-is-entry Inv-loop μ-loop
+sub-is-entry c = search needs
+
+part-is-entry-start : tie.Need-part-is-entry-start Inv-loop μ-loop
+part-is-entry-start c = search needs
+
+part-is-entry-end : tie.Need-part-is-entry-end Inv-loop μ-loop
+part-is-entry-end c = search needs
+
+is-entry-requires : tie.Need-is-entry-requires Inv-loop μ-loop
+is-entry-requires c κs = search needs
+
+-- one entry more
+turn : (c : tie.After-is-entry Inv-loop μ-loop)
+    → (c .is-entry .result && entriesFrom (c .before .before .before .before .before .before .before .args .n - (c .before .before .before .before .before .loop .i + 1)) (c .before .before .before .before .before .before .before .args .row .now) (c .before .before .before .before .before .loop .i + 1 + 1))
+    ≡ entriesFrom (c .before .before .before .before .before .before .before .args .n) (c .before .before .before .before .before .before .before .args .row .now) 1
+turn c =
+    let l = c .before .before .before .before .before .loop in
+    let n = c .before .before .before .before .before .before .before .args .n in
+    let s = c .before .before .before .before .before .before .before .args .row .now in
+    let e = c .is-entry .ensures ∙ entry-read s n (l .i) (c .before .before .before .number8 .result) (c .before .before .before .before .before .before .before .pre .1) (c .before .before .before .number8 .ensures) in
+    ap (λ (t : Bool). t && entriesFrom (n - (l .i + 1)) s (l .i + 1 + 1)) e ∙ sym (entries-next s n (l .i) (omega arith)) ∙ l .inv .1
+
+returns : tie.Need-returns Inv-loop μ-loop
+returns c = simp (not-true (c .before .is-entry .result) (c .if1 .taken)) at (turn (c .before))
+
+add-i : tie.Need-add-i Inv-loop μ-loop
+add-i c = search needs
+
+loop-less : tie.Need-loop-less Inv-loop μ-loop
+loop-less c = search needs
+
+loop-again : tie.Need-loop-again Inv-loop μ-loop
+loop-again c = (omega arith, simp (not-false (c .before .is-entry .result) (c .if1 .left)) at (turn (c .before)))
+
+returns-2 : tie.Need-returns-2 Inv-loop μ-loop
+returns-2 c = sym (entries-none (c .before .before .before .args .row .now) (c .before .before .before .args .n) (c .before .loop .i) (omega arith)) ∙ c .before .loop .inv .1
+
+pub are-entries-spec : {M : Type 1} → statement M
+are-entries-spec =
+    tie.close
+    (tie.spec
+    Inv-loop
+    μ-loop
+    mul-text
+    add-text
+    loop-holds
+    add-number8
+    mul-number8
+    add-number8-2
+    number8-requires
+    add-is-entry
+    shared-slice-read-is-entry
+    sub-is-entry
+    part-is-entry-start
+    part-is-entry-end
+    is-entry-requires
+    returns
+    add-i
+    loop-less
+    loop-again
+    returns-2)

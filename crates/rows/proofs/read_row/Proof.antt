@@ -1,0 +1,85 @@
+-- `rows::read_row` meets its contract. Assumes nothing.
+use Prim.Native.Nat.{_+_, _*_}
+use mathlib.Core.Path.{_≡_}
+use mathlib.Core.Bool.{_&&_}
+use lib.Dec.{leb, eqb}
+use lib.ListN.{length}
+use borrow.Author.Tests.{le-leb, lt-leb, eq-eqb, ne-eqb}
+use Rattle.writing.specs.Choose.{choose}
+use Rattle.rows.specs.declared.RowRead.the-variants.{Row, Broken}
+use Rattle.rows.specs.Row.{entriesFrom, isRow, rowOf}
+use borrow.Author.Needs.{needs}
+use Rattle.rows.proofs.read_row.Statement.{statement}
+use Rattle.rows.proofs.read_row.Tie as tie
+
+returns : tie.Need-returns
+unfolding rowOf isRow
+returns c = simp (lt-leb _ _ (c .if1 .taken))
+
+number2-requires : tie.Need-number2-requires
+number2-requires c κs = search needs
+
+number4-requires : tie.Need-number4-requires
+number4-requires c κs = search needs
+
+-- the two sizes, read
+known : (c : tie.After-number4)
+    → rowOf (c .before .before .before .before .args .row .now)
+    ≡ choose
+    (leb (c .before .number2 .result) 64
+    && leb (c .number4 .result) 32768
+    && eqb (length (c .before .before .before .before .args .row .now)) (6 + 9 * c .before .number2 .result + c .number4 .result)
+    && entriesFrom (c .before .number2 .result) (c .before .before .before .before .args .row .now) 1)
+    (λ _. Row (c .before .number2 .result))
+    (λ _. Broken)
+unfolding rowOf isRow
+known c = simp (le-leb _ _ (c .before .before .if1 .left), ← c .before .number2 .ensures .0, ← c .number4 .ensures .0)
+
+-- the layout kept, but for the entries
+entries : (c : tie.After-are-entries) → rowOf (c .before .before .before .before .before .before .before .before .args .row .now) ≡ choose (c .are-entries .result) (λ _. Row (c .before .before .before .before .before .number2 .result)) (λ _. Broken)
+entries c =
+    simp (known (c .before .before .before .before), le-leb _ _ (c .before .before .before .if2 .left), le-leb _ _ (c .before .before .if3 .left), eq-eqb _ _ (c .before .if4 .left), ← c .are-entries .ensures)
+
+returns-2 : tie.Need-returns-2
+returns-2 c = simp (known (c .before), lt-leb _ _ (c .if2 .taken))
+
+returns-3 : tie.Need-returns-3
+returns-3 c = simp (known (c .before .before), le-leb _ _ (c .before .if2 .left), lt-leb _ _ (c .if3 .taken))
+
+mul-if4 : tie.Need-mul-if4
+mul-if4 c = search needs
+
+add-if4 : tie.Need-add-if4
+add-if4 c = search needs
+
+add-if4-2 : tie.Need-add-if4-2
+add-if4-2 c = search needs
+
+returns-4 : tie.Need-returns-4
+returns-4 c = simp (known (c .before .before .before), le-leb _ _ (c .before .before .if2 .left), le-leb _ _ (c .before .if3 .left), ne-eqb _ _ (c .if4 .taken))
+
+are-entries-requires : tie.Need-are-entries-requires
+are-entries-requires c κs = search needs
+
+returns-5 : tie.Need-returns-5
+returns-5 c = simp (entries (c .before), c .if5 .taken)
+
+returns-6 : tie.Need-returns-6
+returns-6 c = simp (entries (c .before), c .if5 .left)
+
+pub read-row-spec : {M : Type 1} → statement M
+read-row-spec =
+    tie.close
+    (tie.spec
+    returns
+    number2-requires
+    number4-requires
+    returns-2
+    returns-3
+    mul-if4
+    add-if4
+    add-if4-2
+    returns-4
+    are-entries-requires
+    returns-5
+    returns-6)
