@@ -9,7 +9,7 @@ ghost use lib.ListN.{length, take, drop};
 ghost use Rattle.numerals.specs.Digits.{places, decimal};
 ghost use Rattle.strings.specs.Scalars.{utf8Of};
 ghost use Rattle.writing.specs.Laid.{laid};
-ghost use Rattle.strings.specs.Cut.{cased};
+ghost use Rattle.strings.specs.Cut.{capital, cased};
 ghost use Rattle.bodies.specs.Bodies.{wordText, signedText, IsBase, Fits, bodyText, planText};
 
 // A text that is printed by name.
@@ -24,13 +24,37 @@ pub enum Word {
 // What stands in a frame: digits of a number in a base; decimal digits with commas; a float in parts; a word, or an integer's digits under %s, cut to a
 // length; a character; a part of the row's text.
 pub enum Body {
-    Digits { value: u64, base: u64, upper: bool },
-    Grouped { value: u64 },
-    Float { parts: HexFloat, upper: bool },
-    Named { word: Word, len: u32, upper: bool },
-    Signed { negative: bool, value: u64, len: u32 },
-    Scalar { scalar: u32, upper: bool },
-    Part { start: u32, len: u32, upper: bool },
+    Digits {
+        value: u64,
+        base: u64,
+        upper: bool,
+    },
+    Grouped {
+        value: u64,
+    },
+    Float {
+        parts: HexFloat,
+        upper: bool,
+    },
+    Named {
+        word: Word,
+        len: u32,
+        upper: bool,
+    },
+    Signed {
+        negative: bool,
+        value: u64,
+        len: u32,
+    },
+    Scalar {
+        scalar: u32,
+        upper: bool,
+    },
+    Part {
+        start: u32,
+        len: u32,
+        upper: bool,
+    },
 }
 
 // A body and the frame around it.
@@ -82,13 +106,29 @@ pub fn body_len(text: &[u8], body: Body) -> u64
     ensures { λ r. ⌜ r ≡ length (bodyText (now (text .entry)) body) ⌝ }
 {
     match body {
-        Body::Digits { value, base, upper: _ } => digits_len(value, base) as u64,
+        Body::Digits {
+            value,
+            base,
+            upper: _,
+        } => digits_len(value, base) as u64,
         Body::Grouped { value } => numerals::grouped_len(value) as u64,
         Body::Float { parts, upper: _ } => binary64::hex_float_len(parts),
-        Body::Named { word: _, len, upper: _ } => len as u64,
-        Body::Signed { negative: _, value: _, len } => len as u64,
+        Body::Named {
+            word: _,
+            len,
+            upper: _,
+        } => len as u64,
+        Body::Signed {
+            negative: _,
+            value: _,
+            len,
+        } => len as u64,
         Body::Scalar { scalar, upper: _ } => strings::scalar_len(scalar) as u64,
-        Body::Part { start: _, len, upper: _ } => len as u64,
+        Body::Part {
+            start: _,
+            len,
+            upper: _,
+        } => len as u64,
     }
 }
 
@@ -151,17 +191,27 @@ fn write_signed(out: &mut [u8], negative: bool, value: u64, n: usize) -> usize
     write_decimal(out, value, n)
 }
 
+// A character's capital: a to z only.
+fn upper_scalar(scalar: u32) -> u32
+    ensures { λ r. ⌜ r ≡ capital scalar ⌝ }
+{
+    if scalar < 97 {
+        return scalar;
+    }
+    if 122 < scalar {
+        return scalar;
+    }
+    scalar - 32
+}
+
 // Writes a character, in capitals where upper is set.
 fn write_char(out: &mut [u8], scalar: u32, upper: bool) -> usize
     requires { ⌜ (scalar ≤ 0x10ffff) × (length (utf8Of scalar) ≤ length (now out)) ⌝ }
     ensures { λ r. ⌜ (r ≡ length (utf8Of scalar)) × (now (out .exit) ≡ laid (now (out .entry)) (cased upper (utf8Of scalar))) ⌝ }
 {
     if upper {
-        if 97 <= scalar {
-            if scalar <= 122 {
-                return strings::write_scalar(out, scalar - 32);
-            }
-        }
+        let big = upper_scalar(scalar);
+        return strings::write_scalar(out, big);
     }
     strings::write_scalar(out, scalar)
 }
@@ -172,13 +222,29 @@ pub fn write_body(out: &mut [u8], text: &[u8], body: Body) -> usize
     ensures { λ r. ⌜ (r ≡ length (bodyText (now (text .entry)) body)) × (now (out .exit) ≡ laid (now (out .entry)) (bodyText (now (text .entry)) body)) ⌝ }
 {
     match body {
-        Body::Digits { value, base, upper } => numerals::write_digits(out, value, base, digits_len(value, base), upper),
+        Body::Digits { value, base, upper } => numerals::write_digits(
+            out,
+            value,
+            base,
+            digits_len(value, base),
+            upper,
+        ),
         Body::Grouped { value } => numerals::write_grouped(out, value),
         Body::Float { parts, upper } => binary64::write_hex_float(out, parts, upper),
         Body::Named { word, len, upper } => write_word(out, word, len as usize, upper),
-        Body::Signed { negative, value, len } => write_signed(out, negative, value, len as usize),
+        Body::Signed {
+            negative,
+            value,
+            len,
+        } => write_signed(out, negative, value, len as usize),
         Body::Scalar { scalar, upper } => write_char(out, scalar, upper),
-        Body::Part { start, len, upper } => write_part(out, text, start as usize, len as usize, upper),
+        Body::Part { start, len, upper } => write_part(
+            out,
+            text,
+            start as usize,
+            len as usize,
+            upper,
+        ),
     }
 }
 

@@ -23,24 +23,30 @@ kindOf b =
     (λ _. named 7 (Known K.Text) b
     (λ _. Unknown)))))))
 
+abbrev pub isInteger : Kind → Bool
+isInteger (K.Signed w) = true
+isInteger K.Float64 = false
+isInteger K.Boolean = false
+isInteger K.Text = false
+
+abbrev pub isNumber : Kind → Bool
+isNumber (K.Signed w) = true
+isNumber K.Float64 = true
+isNumber K.Boolean = false
+isNumber K.Text = false
+
+abbrev pub isBoolean : Kind → Bool
+isBoolean (K.Signed w) = false
+isBoolean K.Float64 = false
+isBoolean K.Boolean = true
+isBoolean K.Text = false
+
 -- 01: "b needs 6; c, d, o, x need 1 to 4; e, f, g, a need 1 to 5; t and T fit none of our kinds; s and h take all."
 abbrev pub fits : Family → Kind → Bool
-fits F.Boolean (K.Signed w) = false
-fits F.Boolean K.Float64 = false
-fits F.Boolean K.Boolean = true
-fits F.Boolean K.Text = false
-fits F.Char (K.Signed w) = true
-fits F.Char K.Float64 = false
-fits F.Char K.Boolean = false
-fits F.Char K.Text = false
-fits F.Integer (K.Signed w) = true
-fits F.Integer K.Float64 = false
-fits F.Integer K.Boolean = false
-fits F.Integer K.Text = false
-fits F.Float (K.Signed w) = true
-fits F.Float K.Float64 = true
-fits F.Float K.Boolean = false
-fits F.Float K.Text = false
+fits F.Boolean k = isBoolean k
+fits F.Char k = isInteger k
+fits F.Integer k = isInteger k
+fits F.Float k = isNumber k
 fits F.Time k = false
 fits F.Text k = true
 fits F.Hash k = true

@@ -4,7 +4,7 @@
 ghost use mathlib.Core.Path.{_≡_};
 ghost use Prim.Native.Nat.{_<_, _≤_};
 ghost use Rattle.conversions.specs.Letters.{timeOf, conversionOf, isUpper, familyOf};
-ghost use Rattle.conversions.specs.Kinds.{kindOf, fits, fitsKind};
+ghost use Rattle.conversions.specs.Kinds.{kindOf, isInteger, isNumber, isBoolean, fits, fitsKind};
 
 // The component of a date that a letter behind t or T names.
 pub enum TimeFormat {
@@ -241,59 +241,50 @@ pub fn kind_of(b: u8) -> KindByte
     }
 }
 
-// Whether a family takes an integer.
-fn takes_integer(family: Family) -> bool
-    ensures { λ r. ⌜ r ≡ fits family (Kind.Signed 0) ⌝ }
+fn is_integer(kind: Kind) -> bool
+    ensures { λ r. ⌜ r ≡ isInteger kind ⌝ }
 {
-    match family {
-        Family::Boolean => false,
-        Family::Hash => true,
-        Family::Text => true,
-        Family::Char => true,
-        Family::Integer => true,
-        Family::Float => true,
-        Family::Time => false,
+    match kind {
+        Kind::Signed(_) => true,
+        Kind::Float64 => false,
+        Kind::Boolean => false,
+        Kind::Text => false,
     }
 }
 
-fn takes_float(family: Family) -> bool
-    ensures { λ r. ⌜ r ≡ fits family Kind.Float64 ⌝ }
+fn is_number(kind: Kind) -> bool
+    ensures { λ r. ⌜ r ≡ isNumber kind ⌝ }
 {
-    match family {
-        Family::Boolean => false,
-        Family::Hash => true,
-        Family::Text => true,
-        Family::Char => false,
-        Family::Integer => false,
-        Family::Float => true,
-        Family::Time => false,
+    match kind {
+        Kind::Signed(_) => true,
+        Kind::Float64 => true,
+        Kind::Boolean => false,
+        Kind::Text => false,
     }
 }
 
-fn takes_boolean(family: Family) -> bool
-    ensures { λ r. ⌜ r ≡ fits family Kind.Boolean ⌝ }
+fn is_boolean(kind: Kind) -> bool
+    ensures { λ r. ⌜ r ≡ isBoolean kind ⌝ }
 {
-    match family {
-        Family::Boolean => true,
-        Family::Hash => true,
-        Family::Text => true,
-        Family::Char => false,
-        Family::Integer => false,
-        Family::Float => false,
-        Family::Time => false,
+    match kind {
+        Kind::Signed(_) => false,
+        Kind::Float64 => false,
+        Kind::Boolean => true,
+        Kind::Text => false,
     }
 }
 
-fn takes_text(family: Family) -> bool
-    ensures { λ r. ⌜ r ≡ fits family Kind.Text ⌝ }
+// Whether the letters of a family fit a kind.
+fn family_fits(family: Family, kind: Kind) -> bool
+    ensures { λ r. ⌜ r ≡ fits family kind ⌝ }
 {
     match family {
-        Family::Boolean => false,
+        Family::Boolean => is_boolean(kind),
         Family::Hash => true,
         Family::Text => true,
-        Family::Char => false,
-        Family::Integer => false,
-        Family::Float => false,
+        Family::Char => is_integer(kind),
+        Family::Integer => is_integer(kind),
+        Family::Float => is_number(kind),
         Family::Time => false,
     }
 }
@@ -305,11 +296,5 @@ pub fn validate(conversion: ConversionType, kind: u8) -> bool
     let KindByte::Known(k) = kind_of(kind % 128) else {
         return false;
     };
-    let f = family_of(conversion);
-    match k {
-        Kind::Signed(_) => takes_integer(f),
-        Kind::Float64 => takes_float(f),
-        Kind::Boolean => takes_boolean(f),
-        Kind::Text => takes_text(f),
-    }
+    family_fits(family_of(conversion), k)
 }

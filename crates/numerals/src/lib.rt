@@ -204,16 +204,16 @@ pub fn take_numeric_param(s: &[u8], at: usize, zero: bool) -> Taken
 pub fn digits_end(s: &[u8], at: usize) -> usize
     ensures { λ r. ⌜ r ≡ at + length (leadingDigits (drop at (now (s .entry)))) ⌝ }
 {
-    let mut i = at;
-    while i < s.len() {
-        let b = s[i];
+    let mut end = at;
+    while end < s.len() {
+        let b = s[end];
         if b < 48 {
-            return i;
+            return end;
         }
         if 57 < b {
-            return i;
+            return end;
         }
-        i = i + 1;
+        end = end + 1;
     }
-    i
+    end
 }

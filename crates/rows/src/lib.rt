@@ -1,5 +1,6 @@
 // The row of values: its layout tested, and the kind and value of each argument.
-use conversions::{Kind, KindByte};
+use conversions::Kind;
+use conversions::KindByte;
 ghost use mathlib.Core.Path.{_≡_};
 ghost use mathlib.Core.List.{[]};
 ghost use Prim.Native.Nat.{_+_, _*_, _%_, _≤_, _<_};

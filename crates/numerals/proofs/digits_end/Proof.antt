@@ -1,4 +1,4 @@
--- `numerals::digits_end` meets its contract. The loop's invariant: the digits from i on end where those from the start do. Assumes nothing.
+-- `numerals::digits_end` meets its contract. The loop's invariant: the digits from `end` on end where those from the start do. Assumes nothing.
 use Prim.Native.Nat.{_+_, _-_}
 use mathlib.Core.Path.{_≡_, refl, ap}
 use lib.ListN.{length, drop}
@@ -10,10 +10,10 @@ use Rattle.numerals.proofs.digits_end.Statement.{statement}
 use Rattle.numerals.proofs.digits_end.Tie as tie
 
 abbrev Inv-loop : tie.InvT-loop
-Inv-loop s at i₀ i = i + length (leadingDigits (drop i s)) ≡ at + length (leadingDigits (drop at s))
+Inv-loop s at end₀ end = end + length (leadingDigits (drop end s)) ≡ at + length (leadingDigits (drop at s))
 
 abbrev μ-loop : tie.MeasureT-loop
-μ-loop s at i₀ i = length s - i
+μ-loop s at end₀ end = length s - end
 
 loop-holds : tie.Need-loop-holds Inv-loop μ-loop
 loop-holds c = refl
@@ -25,16 +25,16 @@ returns : tie.Need-returns Inv-loop μ-loop
 returns c =
     let l = c .before .before .before .loop in
     let s = c .before .before .before .before .args .s .now in
-    omega (arith, l .inv, ap length (below-digit s (l .i) (omega arith) (omega arith)))
+    omega (arith, l .inv, ap length (below-digit s (l .end) (omega arith) (omega arith)))
 
 returns-2 : tie.Need-returns-2 Inv-loop μ-loop
 returns-2 c =
     let l = c .before .before .before .before .loop in
     let s = c .before .before .before .before .before .args .s .now in
-    omega (arith, l .inv, ap length (above-digit s (l .i) (omega arith) (omega arith)))
+    omega (arith, l .inv, ap length (above-digit s (l .end) (omega arith) (omega arith)))
 
-add-i : tie.Need-add-i Inv-loop μ-loop
-add-i c = search needs
+add-end : tie.Need-add-end Inv-loop μ-loop
+add-end c = search needs
 
 loop-less : tie.Need-loop-less Inv-loop μ-loop
 loop-less c = search needs
@@ -43,13 +43,13 @@ loop-again : tie.Need-loop-again Inv-loop μ-loop
 loop-again c =
     let l = c .before .before .before .before .loop in
     let s = c .before .before .before .before .before .args .s .now in
-    omega (arith, l .inv, ap length (digit-at s (l .i) (omega arith) (omega arith) (omega arith)))
+    omega (arith, l .inv, ap length (digit-at s (l .end) (omega arith) (omega arith) (omega arith)))
 
 returns-3 : tie.Need-returns-3 Inv-loop μ-loop
 returns-3 c =
     let l = c .before .loop in
     let s = c .before .before .args .s .now in
-    omega (arith, l .inv, ap length (end-of-text s (l .i) (omega arith)))
+    omega (arith, l .inv, ap length (end-of-text s (l .end) (omega arith)))
 
 pub digits-end-spec : {M : Type 1} → statement M
 digits-end-spec =
@@ -61,7 +61,7 @@ digits-end-spec =
     shared-slice-read-b
     returns
     returns-2
-    add-i
+    add-end
     loop-less
     loop-again
     returns-3)

@@ -1,0 +1,20 @@
+-- Lengths of bodies. Assumes nothing.
+use mathlib.Core.Path.{_≡_, refl, sym, ap, _∙_}
+use mathlib.Core.Bool.{Bool, true, false}
+use mathlib.Core.List.{List, [], _∷_}
+use Prim.Native.Nat.{ℕ, zero, suc, _+_, _^_, _≤_, _<_}
+use native.Mathlib.Decide.{decEq}
+use native.Mathlib.Omega.{arith}
+use lib.Dec.{lit≤}
+use lib.ListN.{length}
+use borrow.Author.Tests.{ne-eqb}
+use Rattle.numerals.specs.Digits.{places, decimal}
+use Rattle.numerals.proofs.Digits.{length-numeral, places-le}
+use Rattle.bodies.specs.Bodies.{signedText, IsBase}
+
+-- a number of 64 bits has at most twenty decimal digits
+pub twenty-places : (n : ℕ) → n < 2 ^ 64 → places 10 n ≤ 20
+twenty-places n h = places-le 10 19 n (lit≤ tt) (omega arith)
+
+pub base-ten : (b : ℕ) → IsBase b → (b ≡ 8 → ⊥) → (b ≡ 16 → ⊥) → b ≡ 10
+base-ten b h n m = ?
