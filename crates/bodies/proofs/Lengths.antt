@@ -17,4 +17,4 @@ pub twenty-places : (n : ℕ) → n < 2 ^ 64 → places 10 n ≤ 20
 twenty-places n h = places-le 10 19 n (lit≤ tt) (omega arith)
 
 pub base-ten : (b : ℕ) → IsBase b → (b ≡ 8 → ⊥) → (b ≡ 16 → ⊥) → b ≡ 10
-base-ten b h n m = ?
+base-ten b h n m = elim (decEq b 10) [ yes e ↦ e | no k ↦ absurd (simp (ne-eqb b 8 n, ne-eqb b 10 k, ne-eqb b 16 m) at h) ]

@@ -1,25 +1,22 @@
+-- `bodies::signed_len` meets its contract. Assumes nothing.
+use native.Mathlib.Omega.{arith}
+use Rattle.numerals.proofs.Digits.{length-numeral}
+use Rattle.bodies.proofs.Lengths.{twenty-places}
 use borrow.Author.Needs.{needs}
 use Rattle.bodies.proofs.signed_len.Statement.{statement}
 use Rattle.bodies.proofs.signed_len.Tie as tie
-use Rattle.bodies.proofs.signed_len.Reads as reads
-use Rattle.bodies.proofs.signed_len.Lts as lts
-use Rattle.numerals.proofs.decimal_len.Reads as decimal-len-reads
 
--- src/lib.rt:72:9
 decimal-len-requires : tie.Need-decimal-len-requires
 decimal-len-requires c κs = search needs
 
--- src/lib.rt:74:16
 add-result : tie.Need-add-result
-add-result c = search needs
+add-result c = omega (arith, c .before .decimal-len .ensures, twenty-places (c .before .before .args .value) (search needs))
 
--- src/lib.rt:74:9
 returns : tie.Need-returns
-returns c = search needs
+returns c = simp (c .if1 .taken) (omega (arith, c .before .decimal-len .ensures, length-numeral false 10 (c .before .before .args .value)))
 
--- src/lib.rt:69:1
 returns-2 : tie.Need-returns-2
-returns-2 c = search needs
+returns-2 c = simp (c .if1 .left) (omega (arith, c .before .decimal-len .ensures, length-numeral false 10 (c .before .before .args .value)))
 
 pub signed-len-spec : {M : Type 1} → statement M
 signed-len-spec = tie.close (tie.spec decimal-len-requires add-result returns returns-2)
