@@ -9,6 +9,8 @@ use lib.ListN.{length, take, length-map}
 use borrow.Author.Tests.{le-leb, lt-leb}
 use Rattle.strings.specs.Cut.{capital, cased}
 use Rattle.strings.specs.Scalars.{utf8Of}
+use Rattle.bodies.specs.declared.Word.{Word}
+use Rattle.bodies.specs.Bodies.{wordText}
 use Rattle.strings.proofs.Scalars.{one, two, three, four}
 
 pub length-cased : (u : Bool) (s : List ℕ) → length (cased u s) ≡ length s
@@ -73,3 +75,7 @@ upper-scalar c = elim (decLt c 128) [ yes h ↦ below h | no n ↦ above (omega 
 
 pub upper-length : (c : ℕ) → length (utf8Of (capital c)) ≡ length (utf8Of c)
 upper-length c = sym (ap length (upper-scalar c)) ∙ length-map (utf8Of c) capital
+
+-- a cut of a word
+pub word-cut : (u : Bool) (n : ℕ) (w v : Word) → v ≡ w → cased u (take n (wordText w)) ≡ take n (cased u (wordText v))
+word-cut u n w v e = sym (take-cased u n (wordText w)) ∙ ap (λ (x : Word). take n (cased u (wordText x))) (sym e)

@@ -18,11 +18,11 @@ enum-known-body c = search needs
 
 -- src/lib.rt:175:89
 digits-len-requires : tie.Need-digits-len-requires
-digits-len-requires c κs = search needs
+digits-len-requires c κs = ?
 
 -- src/lib.rt:175:48
 write-digits-requires : tie.Need-write-digits-requires
-write-digits-requires c κs = search needs
+write-digits-requires c κs = ?
 
 -- src/lib.rt:176:25
 enum-known-body-2 : tie.Need-enum-known-body-2
@@ -30,7 +30,7 @@ enum-known-body-2 c = search needs
 
 -- src/lib.rt:176:36
 write-grouped-requires : tie.Need-write-grouped-requires
-write-grouped-requires c κs = search needs
+write-grouped-requires c κs = ?
 
 -- src/lib.rt:177:23
 enum-known-body-3 : tie.Need-enum-known-body-3
@@ -38,7 +38,7 @@ enum-known-body-3 c = search needs
 
 -- src/lib.rt:177:41
 write-hex-float-requires : tie.Need-write-hex-float-requires
-write-hex-float-requires c κs = search needs
+write-hex-float-requires c κs = ?
 
 -- src/lib.rt:178:23
 enum-known-body-4 : tie.Need-enum-known-body-4
@@ -50,7 +50,7 @@ cast-write-word c = search needs
 
 -- src/lib.rt:178:45
 write-word-requires : tie.Need-write-word-requires
-write-word-requires c κs = search needs
+write-word-requires c κs = ?
 
 -- src/lib.rt:179:24
 enum-known-body-5 : tie.Need-enum-known-body-5
@@ -62,7 +62,7 @@ cast-write-signed c = search needs
 
 -- src/lib.rt:179:50
 write-signed-requires : tie.Need-write-signed-requires
-write-signed-requires c κs = search needs
+write-signed-requires c κs = ?
 
 -- src/lib.rt:180:24
 enum-known-body-6 : tie.Need-enum-known-body-6
@@ -70,7 +70,7 @@ enum-known-body-6 c = search needs
 
 -- src/lib.rt:180:43
 write-char-requires : tie.Need-write-char-requires
-write-char-requires c κs = search needs
+write-char-requires c κs = ?
 
 -- src/lib.rt:181:22
 enum-known-body-7 : tie.Need-enum-known-body-7
@@ -86,7 +86,7 @@ cast-write-part-2 c = search needs
 
 -- src/lib.rt:181:45
 write-part-requires : tie.Need-write-part-requires
-write-part-requires c κs = search needs
+write-part-requires c κs = ?
 
 -- src/lib.rt:170:1
 same-length : tie.Need-same-length
@@ -94,7 +94,7 @@ same-length c = search needs
 
 -- src/lib.rt:170:1
 returns : tie.Need-returns
-returns c = search needs
+returns c = ?
 
 -- src/lib.rt:170:1
 same-length-2 : tie.Need-same-length-2
@@ -102,7 +102,7 @@ same-length-2 c = search needs
 
 -- src/lib.rt:170:1
 returns-2 : tie.Need-returns-2
-returns-2 c = search needs
+returns-2 c = ?
 
 -- src/lib.rt:170:1
 same-length-3 : tie.Need-same-length-3
@@ -110,7 +110,7 @@ same-length-3 c = search needs
 
 -- src/lib.rt:170:1
 returns-3 : tie.Need-returns-3
-returns-3 c = search needs
+returns-3 c = ?
 
 -- src/lib.rt:170:1
 same-length-4 : tie.Need-same-length-4
@@ -118,7 +118,7 @@ same-length-4 c = search needs
 
 -- src/lib.rt:170:1
 returns-4 : tie.Need-returns-4
-returns-4 c = search needs
+returns-4 c = ?
 
 -- src/lib.rt:170:1
 same-length-5 : tie.Need-same-length-5
@@ -126,7 +126,7 @@ same-length-5 c = search needs
 
 -- src/lib.rt:170:1
 returns-5 : tie.Need-returns-5
-returns-5 c = search needs
+returns-5 c = ?
 
 -- src/lib.rt:170:1
 same-length-6 : tie.Need-same-length-6
@@ -134,7 +134,7 @@ same-length-6 c = search needs
 
 -- src/lib.rt:170:1
 returns-6 : tie.Need-returns-6
-returns-6 c = search needs
+returns-6 c = ?
 
 -- src/lib.rt:170:1
 same-length-7 : tie.Need-same-length-7
@@ -142,7 +142,7 @@ same-length-7 c = search needs
 
 -- src/lib.rt:170:1
 returns-7 : tie.Need-returns-7
-returns-7 c = search needs
+returns-7 c = ?
 
 pub write-body-spec : {M : Type 1} → statement M
 write-body-spec =

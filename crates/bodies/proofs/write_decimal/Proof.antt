@@ -1,43 +1,40 @@
+-- `bodies::write_decimal` meets its contract. Assumes nothing.
+use Prim.Native.Nat.{_≤_}
+use native.Mathlib.Omega.{arith}
+use lib.Dec.{lit≤}
+use lib.ListN.{length-take}
+use Rattle.numerals.proofs.Digits.{length-numeral}
+use Rattle.bodies.proofs.Lengths.{twenty-places}
 use borrow.Author.Needs.{needs}
 use Rattle.bodies.proofs.write_decimal.Statement.{statement}
 use Rattle.bodies.proofs.write_decimal.Tie as tie
-use Rattle.bodies.proofs.write_decimal.Reads as reads
-use Rattle.bodies.proofs.write_decimal.Lts as lts
-use Rattle.numerals.proofs.decimal_len.Reads as decimal-len-reads
-use Rattle.numerals.proofs.write_digits.Reads as write-digits-reads
-use Rattle.writing.proofs.write_text.Reads as write-text-reads
 
--- src/lib.rt:134:9
+small : (c : tie.Start) → c .args .n ≤ 20
+small c = omega (arith, c .pre .0, length-numeral false 10 (c .args .value), twenty-places (c .args .value) (search needs))
+
 decimal-len-requires : tie.Need-decimal-len-requires
 decimal-len-requires c κs = search needs
 
--- src/lib.rt:135:28
 slice-aggregate-write-digits : tie.Need-slice-aggregate-write-digits
 slice-aggregate-write-digits c = search needs
 
--- src/lib.rt:135:5
 write-digits-requires : tie.Need-write-digits-requires
-write-digits-requires c κs = search needs
+write-digits-requires c κs = (lit≤ tt, (lit≤ tt, omega (arith, c .before .decimal-len .ensures, twenty-places (c .before .before .before .args .value) (search needs))))
 
--- src/lib.rt:136:30
 array-share-prefix-buffer : tie.Need-array-share-prefix-buffer
-array-share-prefix-buffer c = search needs
+array-share-prefix-buffer c = let s = small (c .before .before .before .before .before .before ) in ?
 
--- src/lib.rt:136:30
 slice-aggregate-write-text : tie.Need-slice-aggregate-write-text
-slice-aggregate-write-text c = search needs
+slice-aggregate-write-text c = let s = small (c .before .before .before .before .before .before .before ) in ?
 
--- src/lib.rt:136:5
 write-text-requires : tie.Need-write-text-requires
-write-text-requires c κs = search needs
+write-text-requires c κs = let s = small (c .before .before .before .before .before .before .before ) in ?
 
--- src/lib.rt:129:1
 same-length : tie.Need-same-length
 same-length c = search needs
 
--- src/lib.rt:129:1
 returns : tie.Need-returns
-returns c = search needs
+returns c = let w = c .before .before .write-text .ensures in let v = c .before .before .before .before .before .before .write-digits .ensures in ?
 
 pub write-decimal-spec : {M : Type 1} → statement M
 write-decimal-spec =

@@ -8,10 +8,12 @@ use layout::{Adjust, Mark, Prefix};
 use numerals::NumericParam;
 use specifiers::{Element, Flags};
 ghost use mathlib.Core.Path.{_≡_};
-ghost use Prim.Native.Nat.{_^_, _≤_, _<_, min};
+ghost use Prim.Native.Nat.{_+_, _/_, _%_, _^_, _≤_, _<_};
 ghost use lib.ListN.{length};
-ghost use Rattle.rows.specs.Row.{HasWidth};
-ghost use Rattle.texts.specs.Plans.{styleOf, widthOf, side, fill, laidOut, cutTo, wordPlan, signMark, integerMark, decimalPlan, bitsPlan, scalarPlan, digitsPlan, integerPlan, nullPlan, floatMark, finitePlan, namedFloat, floatPlan, booleanPlan, partPlan, textPlan, valuePlan, elementPlan};
+ghost use Rattle.conversions.specs.Kinds.{kindOf};
+ghost use Rattle.binary64.specs.Fields.{categoryOf};
+ghost use Rattle.bodies.specs.Bodies.{IsBase};
+ghost use Rattle.texts.specs.Plans.{styleOf, widthOf, side, fill, laidOut, cutTo, wordPlan, signMark, integerMark, decimalPlan, bitsPlan, scalarPlan, digitsPlan, hexPrefix, integerPlan, nullPlan, floatMark, finitePlan, namedFloat, floatOf, floatPlan, booleanPlan, cutPart, partPlan, textPlan, Named, NamedBy, valuePlan, elementPlan};
 
 // The letters that print alike.
 pub enum Style {
@@ -321,7 +323,7 @@ fn named_float(e: Element, mark: Mark, word: Word) -> Planned
 }
 
 // %a
-fn float_plan(e: Element, bits: u64) -> Planned
+fn hex_plan(e: Element, bits: u64) -> Planned
     ensures { λ r. ⌜ r ≡ floatOf e (categoryOf bits) bits ⌝ }
 {
     let flags = e.flags;
@@ -339,7 +341,7 @@ fn float_plan(e: Element, bits: u64) -> Planned
 }
 
 // A Boolean; null has the value 0.
-fn boolean_plan(e: Element, value: u64) -> Planned
+fn truth_plan(e: Element, value: u64) -> Planned
     ensures { λ r. ⌜ r ≡ booleanPlan e Style.Truth value ⌝ }
 {
     if value == 0 {
@@ -378,18 +380,82 @@ fn part_plan(e: Element, text: &[u8], value: u64) -> Planned
     lay_out(e, side_of(flags), Mark::NoMark, Prefix::NoPrefix, n as u64, body)
 }
 
-// Whether a style is the one given by number: 0 for %s, 1 for %a, 2 for %b.
-fn is_plain(style: Style) -> bool
-    ensures { λ r. ⌜ r ≡ isPlain style ⌝ }
+// A float: %a alone is printed.
+fn plan_float(e: Element, style: Style, bits: u64) -> Planned
+    ensures { λ r. ⌜ r ≡ floatPlan e style bits ⌝ }
 {
     match style {
-        Style::Decimal => false,
-        Style::Octals => false,
-        Style::Hexadecimal => false,
-        Style::Character => false,
-        Style::Plain => true,
-        Style::HexFloat => false,
-        Style::Truth => false,
-        Style::NotPrinted => false,
+        Style::HexFloat => hex_plan(e, bits),
+        Style::Decimal => Planned::Stops(15),
+        Style::Octals => Planned::Stops(15),
+        Style::Hexadecimal => Planned::Stops(15),
+        Style::Character => Planned::Stops(15),
+        Style::Plain => Planned::Stops(15),
+        Style::Truth => Planned::Stops(15),
+        Style::NotPrinted => Planned::Stops(15),
     }
+}
+
+// A Boolean: %b alone is printed.
+fn plan_boolean(e: Element, style: Style, value: u64) -> Planned
+    ensures { λ r. ⌜ r ≡ booleanPlan e style value ⌝ }
+{
+    match style {
+        Style::Truth => truth_plan(e, value),
+        Style::Decimal => Planned::Stops(15),
+        Style::Octals => Planned::Stops(15),
+        Style::Hexadecimal => Planned::Stops(15),
+        Style::Character => Planned::Stops(15),
+        Style::Plain => Planned::Stops(15),
+        Style::HexFloat => Planned::Stops(15),
+        Style::NotPrinted => Planned::Stops(15),
+    }
+}
+
+// A text: %s alone is printed.
+fn plan_text(e: Element, style: Style, text: &[u8], value: u64) -> Planned
+    requires { ⌜ value % 2 ^ 32 + value / 2 ^ 32 ≤ length (now text) ⌝ }
+    ensures { λ r. ⌜ r ≡ textPlan e style (now (text .entry)) value ⌝ }
+{
+    match style {
+        Style::Plain => part_plan(e, text, value),
+        Style::Decimal => Planned::Stops(15),
+        Style::Octals => Planned::Stops(15),
+        Style::Hexadecimal => Planned::Stops(15),
+        Style::Character => Planned::Stops(15),
+        Style::HexFloat => Planned::Stops(15),
+        Style::Truth => Planned::Stops(15),
+        Style::NotPrinted => Planned::Stops(15),
+    }
+}
+
+// An element for a value of a kind.
+fn plan_value(e: Element, kind: Kind, null: bool, text: &[u8], value: u64) -> Planned
+    requires { ⌜ Named (now text) kind value ⌝ }
+    ensures { λ r. ⌜ r ≡ valuePlan e kind null (now (text .entry)) value ⌝ }
+{
+    let conversion = e.conversion;
+    let style = style_of(conversion);
+    match kind {
+        Kind::Signed(width) => {
+            if null {
+                return null_plan(e, style);
+            }
+            integer_plan(e, style, width, value)
+        }
+        Kind::Float64 => plan_float(e, style, value),
+        Kind::Boolean => plan_boolean(e, style, value),
+        Kind::Text => plan_text(e, style, text, value),
+    }
+}
+
+// The plan of an element for a row's entry: its kind byte, the row's text area, its value.
+pub fn plan_element(e: Element, kind: u8, text: &[u8], value: u64) -> Planned
+    requires { ⌜ NamedBy (now text) (kindOf (kind % 128)) value ⌝ }
+    ensures { λ r. ⌜ r ≡ elementPlan e kind (now (text .entry)) value ⌝ }
+{
+    let KindByte::Known(k) = conversions::kind_of(kind % 128) else {
+        return Planned::Stops(15);
+    };
+    plan_value(e, k, 128 <= kind, text, value)
 }

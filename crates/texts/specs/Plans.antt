@@ -1,5 +1,5 @@
 -- The text of an element for a value: which body stands in which frame. 01, "A row printed, or only measured".
-use Prim.Native.Nat.{ℕ, _+_, _%_, _/_, _^_, min}
+use Prim.Native.Nat.{ℕ, _+_, _%_, _/_, _^_, _≤_, min}
 use mathlib.Core.Bool.{Bool, true, false, _&&_}
 use mathlib.Core.List.{List}
 use lib.Dec.{leb, ltb, eqb}
@@ -126,12 +126,17 @@ abbrev pub digitsPlan : Element → Bool → ℕ → Planned
 digitsPlan e negative n =
     laidOut e (side (e .flags)) NoMark NoPrefix (cutTo (e .precision) (length (signedText negative n))) (B.Signed negative n (cutTo (e .precision) (length (signedText negative n))))
 
+-- `0x`, or `0X` for capitals
+abbrev pub hexPrefix : Bool → Prefix
+hexPrefix false = HexLower
+hexPrefix true = HexUpper
+
 -- A signed integer of w bits with the 64-bit pattern v. "%x %X %o: `format_unsigned` on the bits at the kind's own width". 15 for a letter that
 -- is not printed for the kind, here and below.
 abbrev pub integerPlan : Element → Style → ℕ → ℕ → Planned
 integerPlan e Decimal w v = decimalPlan e (isNegative (intOf 64 v)) (natAbs (intOf 64 v))
 integerPlan e Octals w v = bitsPlan e Octal 8 (v % 2 ^ w)
-integerPlan e Hexadecimal w v = bitsPlan e (choose (isUpper (e .conversion)) (λ _. HexUpper) (λ _. HexLower)) 16 (v % 2 ^ w)
+integerPlan e Hexadecimal w v = bitsPlan e (hexPrefix (isUpper (e .conversion))) 16 (v % 2 ^ w)
 integerPlan e Character w v = scalarPlan e (isNegative (intOf 64 v)) (natAbs (intOf 64 v))
 integerPlan e Plain w v = digitsPlan e (isNegative (intOf 64 v)) (natAbs (intOf 64 v))
 integerPlan e HexFloat w v = Stops 15
@@ -155,7 +160,7 @@ floatMark f negative = choose negative (λ _. Minus) (λ _. signMark f)
 
 abbrev pub finitePlan : Element → ℕ → Planned
 finitePlan e v =
-    laidOut e (fill (e .flags)) (floatMark (e .flags) (negative v)) (choose (isUpper (e .conversion)) (λ _. HexUpper) (λ _. HexLower))
+    laidOut e (fill (e .flags)) (floatMark (e .flags) (negative v)) (hexPrefix (isUpper (e .conversion)))
     (length (hexFloatText false (hexFloatOf v (e .precision)))) (B.Float (hexFloatOf v (e .precision)) (isUpper (e .conversion)))
 
 abbrev pub namedFloat : Element → Mark → Word → Planned
@@ -209,6 +214,17 @@ textPlan e HexFloat text v = Stops 15
 textPlan e Truth text v = Stops 15
 textPlan e NotPrinted text v = Stops 15
 
+-- That a text's value names a part of the text area, which a row's layout gives.
+abbrev pub Named : List ℕ → Kind → ℕ → Type 0
+Named text (K.Signed w) v = Unit {0}
+Named text K.Float64 v = Unit {0}
+Named text K.Boolean v = Unit {0}
+Named text K.Text v = v % 2 ^ 32 + v / 2 ^ 32 ≤ length text
+
+abbrev pub NamedBy : List ℕ → KindByte → ℕ → Type 0
+NamedBy text (Known k) v = Named text k v
+NamedBy text Unknown v = Unit {0}
+
 -- An element for a value of a kind, null or not.
 abbrev pub valuePlan : Element → Kind → Bool → List ℕ → ℕ → Planned
 valuePlan e (K.Signed w) true text v = nullPlan e (styleOf (e .conversion))
@@ -217,9 +233,9 @@ valuePlan e K.Float64 null text v = floatPlan e (styleOf (e .conversion)) v
 valuePlan e K.Boolean null text v = booleanPlan e (styleOf (e .conversion)) v
 valuePlan e K.Text null text v = textPlan e (styleOf (e .conversion)) text v
 
+abbrev pub kindPlan : Element → KindByte → Bool → List ℕ → ℕ → Planned
+kindPlan e (Known k) null text v = valuePlan e k null text v
+kindPlan e Unknown null text v = Stops 15
+
 unfoldable pub elementPlan : Element → ℕ → List ℕ → ℕ → Planned
-elementPlan e k text v = kindPlan (kindOf (k % 128))
-  where
-    kindPlan : KindByte → Planned
-    kindPlan (Known kind) = valuePlan e kind (isNull k) text v
-    kindPlan Unknown = Stops 15
+elementPlan e k text v = kindPlan e (kindOf (k % 128)) (isNull k) text v
