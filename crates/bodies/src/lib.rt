@@ -4,7 +4,7 @@
 use binary64::HexFloat;
 use layout::Frame;
 ghost use mathlib.Core.Path.{_≡_};
-ghost use Prim.Native.Nat.{_+_, _≤_};
+ghost use Prim.Native.Nat.{_+_, _^_, _≤_, _<_};
 ghost use lib.ListN.{length, take, drop};
 ghost use Rattle.numerals.specs.Digits.{places, decimal};
 ghost use Rattle.strings.specs.Scalars.{utf8Of};
@@ -100,10 +100,10 @@ pub fn signed_len(negative: bool, value: u64) -> usize
     n
 }
 
-// The length of a body; nothing is written.
-pub fn body_len(text: &[u8], body: Body) -> u64
+// The length of a body, far below what 64 bits hold.
+fn measured(text: &[u8], body: Body) -> u64
     requires { ⌜ Fits (now text) body ⌝ }
-    ensures { λ r. ⌜ r ≡ length (bodyText (now (text .entry)) body) ⌝ }
+    ensures { λ r. ⌜ (r ≡ length (bodyText (now (text .entry)) body)) × (r < 2 ^ 40) ⌝ }
 {
     match body {
         Body::Digits {
@@ -130,6 +130,14 @@ pub fn body_len(text: &[u8], body: Body) -> u64
             upper: _,
         } => len as u64,
     }
+}
+
+// The length of a body; nothing is written.
+pub fn body_len(text: &[u8], body: Body) -> u64
+    requires { ⌜ Fits (now text) body ⌝ }
+    ensures { λ r. ⌜ r ≡ length (bodyText (now (text .entry)) body) ⌝ }
+{
+    measured(text, body)
 }
 
 // Copies a text, in capitals where upper is set.
@@ -255,7 +263,7 @@ pub fn plan_len(text: &[u8], plan: Plan) -> u64
 {
     let frame = plan.frame;
     let body = plan.body;
-    layout::frame_len(frame) + body_len(text, body)
+    layout::frame_len(frame) + measured(text, body)
 }
 
 // Writes a body in its frame. Answers the length.

@@ -1,5 +1,10 @@
 -- `bodies::plan_len` meets its contract. Assumes nothing.
+use Prim.Native.Nat.{_<_, _^_}
 use native.Mathlib.Omega.{arith}
+use Rattle.layout.specs.Frame.{closingByte}
+use Rattle.layout.proofs.Lengths.{head-length, tail-length, framed-length}
+use Rattle.bodies.specs.Bodies.{bodyText, planText}
+use Rattle.bodies.proofs.Lengths.{marks-le, byte-le}
 use borrow.Author.Needs.{needs}
 use Rattle.bodies.proofs.plan_len.Statement.{statement}
 use Rattle.bodies.proofs.plan_len.Tie as tie
@@ -7,14 +12,22 @@ use Rattle.bodies.proofs.plan_len.Tie as tie
 frame-len-requires : tie.Need-frame-len-requires
 frame-len-requires c κs = search needs
 
-body-len-requires : tie.Need-body-len-requires
-body-len-requires c κs = search needs
+measured-requires : tie.Need-measured-requires
+measured-requires c κs = search needs
 
 add-result : tie.Need-add-result
-add-result c = let f = c .before .frame-len .ensures in let b = c .body-len .ensures in let g = c .before .before .before .before .good in ?
+add-result c =
+    let f = c .before .before .before .before .args .plan .frame in
+    let h : f .before < 2 ^ 32 = search needs in
+    let k : f .zeros < 2 ^ 32 = search needs in
+    let l : f .after < 2 ^ 32 = search needs in
+    omega (arith, c .before .frame-len .ensures, c .measured .ensures .1, head-length f, tail-length f, marks-le (f .mark) (f .prefix), byte-le (closingByte (f .mark)))
 
 returns : tie.Need-returns
-returns c = let f = c .before .frame-len .ensures in let b = c .body-len .ensures in ?
+unfolding planText
+returns c =
+    let a = c .before .before .before .before .args in
+    omega (arith, c .before .frame-len .ensures, c .measured .ensures .0, framed-length (a .plan .frame) (bodyText (a .text .now) (a .plan .body)))
 
 pub plan-len-spec : {M : Type 1} → statement M
-plan-len-spec = tie.close (tie.spec frame-len-requires body-len-requires add-result returns)
+plan-len-spec = tie.close (tie.spec frame-len-requires measured-requires add-result returns)

@@ -1,4 +1,5 @@
 -- `bodies::signed_len` meets its contract. Assumes nothing.
+use mathlib.Core.Bool.{false}
 use native.Mathlib.Omega.{arith}
 use Rattle.numerals.proofs.Digits.{length-numeral}
 use Rattle.bodies.proofs.Lengths.{twenty-places}

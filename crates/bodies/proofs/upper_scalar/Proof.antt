@@ -1,24 +1,21 @@
+-- `bodies::upper_scalar` meets its contract. Assumes nothing.
+use mathlib.Core.Path.{sym}
+use Rattle.bodies.proofs.Cased.{capital-low, capital-high, capital-letter}
 use borrow.Author.Needs.{needs}
 use Rattle.bodies.proofs.upper_scalar.Statement.{statement}
 use Rattle.bodies.proofs.upper_scalar.Tie as tie
-use Rattle.bodies.proofs.upper_scalar.Reads as reads
-use Rattle.bodies.proofs.upper_scalar.Lts as lts
 
--- src/lib.rt:199:9
 returns : tie.Need-returns
-returns c = search needs
+returns c = sym (capital-low _ (c .if1 .taken))
 
--- src/lib.rt:202:9
 returns-2 : tie.Need-returns-2
-returns-2 c = search needs
+returns-2 c = sym (capital-high _ (c .if2 .taken))
 
--- src/lib.rt:204:5
 sub-result : tie.Need-sub-result
 sub-result c = search needs
 
--- src/lib.rt:195:1
 returns-3 : tie.Need-returns-3
-returns-3 c = search needs
+returns-3 c = sym (capital-letter _ (c .before .if1 .left) (c .if2 .left))
 
 pub upper-scalar-spec : {M : Type 1} → statement M
 upper-scalar-spec = tie.close (tie.spec returns returns-2 sub-result returns-3)

@@ -1,148 +1,212 @@
+-- `bodies::write_body` meets its contract. Assumes nothing.
+use Prim.Native.Nat.{ℕ, _≤_}
+use mathlib.Core.Path.{sym, ap, subst, _∙_}
+use lib.ListN.{length}
+use native.Mathlib.Omega.{arith}
+use Rattle.writing.specs.Laid.{laid}
+use Rattle.numerals.specs.Digits.{digitsIn, digits, lettersOf, numeral}
+use Rattle.numerals.proofs.Digits.{length-numeral}
+use Rattle.strings.specs.Scalars.{utf8Of}
+use Rattle.bodies.specs.declared.Body.{Body}
+use Rattle.bodies.specs.Bodies.{Fits, bodyText}
+use Rattle.bodies.proofs.Cased.{length-cased}
+use Rattle.bodies.proofs.Lengths.{base-range, named-length, signed-length, part-length}
 use borrow.Author.Needs.{needs}
 use Rattle.bodies.proofs.write_body.Statement.{statement}
 use Rattle.bodies.proofs.write_body.Tie as tie
-use Rattle.bodies.proofs.write_body.Reads as reads
-use Rattle.bodies.proofs.write_body.Lts as lts
-use Rattle.binary64.proofs.write_hex_float.Reads as write-hex-float-reads
-use Rattle.bodies.proofs.digits_len.Reads as digits-len-reads
-use Rattle.bodies.proofs.write_char.Reads as write-char-reads
-use Rattle.bodies.proofs.write_part.Reads as write-part-reads
-use Rattle.bodies.proofs.write_signed.Reads as write-signed-reads
-use Rattle.bodies.proofs.write_word.Reads as write-word-reads
-use Rattle.numerals.proofs.write_digits.Reads as write-digits-reads
-use Rattle.numerals.proofs.write_grouped.Reads as write-grouped-reads
 
--- src/lib.rt:175:24
 enum-known-body : tie.Need-enum-known-body
 enum-known-body c = search needs
 
--- src/lib.rt:175:89
 digits-len-requires : tie.Need-digits-len-requires
-digits-len-requires c κs = ?
+digits-len-requires c κs = subst (Fits (c .before .before .before .before .before .before .args .text .now)) (c .before .before .body .given .1) (c .before .before .before .before .before .before .pre .0)
 
--- src/lib.rt:175:48
 write-digits-requires : tie.Need-write-digits-requires
-write-digits-requires c κs = ?
+unfolding bodyText
+write-digits-requires c κs =
+    let a = c .before .before .before .before .before .before .before .args in
+    let t = a .text .now in
+    let g = c .before .before .before .body .given in
+    let p = subst (Fits t) (g .1) (c .before .before .before .before .before .before .before .pre .0) in
+    let e = ap (λ (b : Body). length (bodyText t b)) (g .1) in
+    (base-range (g .0 .1 .0) p .0, base-range (g .0 .1 .0) p .1, omega (arith, e ∙ length-numeral (g .0 .1 .1 .0) (g .0 .1 .0) (g .0 .0), c .digits-len .ensures, c .before .before .before .before .before .before .before .pre .1))
 
--- src/lib.rt:176:25
 enum-known-body-2 : tie.Need-enum-known-body-2
 enum-known-body-2 c = search needs
 
--- src/lib.rt:176:36
 write-grouped-requires : tie.Need-write-grouped-requires
-write-grouped-requires c κs = ?
+unfolding bodyText
+write-grouped-requires c κs =
+    let a = c .before .before .before .before .before .before .args in
+    subst (λ (b : Body). length (bodyText (a .text .now) b) ≤ length (a .out .now)) (c .before .before .body2 .given .1) (c .before .before .before .before .before .before .pre .1)
 
--- src/lib.rt:177:23
 enum-known-body-3 : tie.Need-enum-known-body-3
 enum-known-body-3 c = search needs
 
--- src/lib.rt:177:41
 write-hex-float-requires : tie.Need-write-hex-float-requires
-write-hex-float-requires c κs = ?
+unfolding bodyText
+write-hex-float-requires c κs =
+    let a = c .before .before .before .before .before .before .args in
+    subst (λ (b : Body). length (bodyText (a .text .now) b) ≤ length (a .out .now)) (c .before .before .body3 .given .1) (c .before .before .before .before .before .before .pre .1)
 
--- src/lib.rt:178:23
 enum-known-body-4 : tie.Need-enum-known-body-4
 enum-known-body-4 c = search needs
 
--- src/lib.rt:178:67
 cast-write-word : tie.Need-cast-write-word
 cast-write-word c = search needs
 
--- src/lib.rt:178:45
 write-word-requires : tie.Need-write-word-requires
-write-word-requires c κs = ?
+unfolding bodyText
+write-word-requires c κs =
+    let a = c .before .before .before .before .before .before .args in
+    let t = a .text .now in
+    let g = c .before .before .body4 .given in
+    let p = subst (Fits t) (g .1) (c .before .before .before .before .before .before .pre .0) in
+    let e = ap (λ (b : Body). length (bodyText t b)) (g .1) in
+    (p, omega (arith, e ∙ named-length (g .0 .0) (g .0 .1 .0) (g .0 .1 .1 .0) p, c .before .before .before .before .before .before .pre .1))
 
--- src/lib.rt:179:24
 enum-known-body-5 : tie.Need-enum-known-body-5
 enum-known-body-5 c = search needs
 
--- src/lib.rt:179:85
 cast-write-signed : tie.Need-cast-write-signed
 cast-write-signed c = search needs
 
--- src/lib.rt:179:50
 write-signed-requires : tie.Need-write-signed-requires
-write-signed-requires c κs = ?
+unfolding bodyText
+write-signed-requires c κs =
+    let a = c .before .before .before .before .before .before .args in
+    let t = a .text .now in
+    let g = c .before .before .body5 .given in
+    let p = subst (Fits t) (g .1) (c .before .before .before .before .before .before .pre .0) in
+    let e = ap (λ (b : Body). length (bodyText t b)) (g .1) in
+    (p, omega (arith, e ∙ signed-length (g .0 .0) (g .0 .1 .0) (g .0 .1 .1 .0) p, c .before .before .before .before .before .before .pre .1))
 
--- src/lib.rt:180:24
 enum-known-body-6 : tie.Need-enum-known-body-6
 enum-known-body-6 c = search needs
 
--- src/lib.rt:180:43
 write-char-requires : tie.Need-write-char-requires
-write-char-requires c κs = ?
+unfolding bodyText
+write-char-requires c κs =
+    let a = c .before .before .before .before .before .before .args in
+    let t = a .text .now in
+    let g = c .before .before .body6 .given in
+    let p = subst (Fits t) (g .1) (c .before .before .before .before .before .before .pre .0) in
+    let e = ap (λ (b : Body). length (bodyText t b)) (g .1) in
+    (p, omega (arith, e ∙ length-cased (g .0 .1 .0) (utf8Of (g .0 .0)), c .before .before .before .before .before .before .pre .1))
 
--- src/lib.rt:181:22
 enum-known-body-7 : tie.Need-enum-known-body-7
 enum-known-body-7 c = search needs
 
--- src/lib.rt:181:67
 cast-write-part : tie.Need-cast-write-part
 cast-write-part c = search needs
 
--- src/lib.rt:181:83
 cast-write-part-2 : tie.Need-cast-write-part-2
 cast-write-part-2 c = search needs
 
--- src/lib.rt:181:45
 write-part-requires : tie.Need-write-part-requires
-write-part-requires c κs = ?
+unfolding bodyText
+write-part-requires c κs =
+    let a = c .before .before .before .before .before .before .args in
+    let t = a .text .now in
+    let g = c .before .before .body7 .given in
+    let p = subst (Fits t) (g .1) (c .before .before .before .before .before .before .pre .0) in
+    let e = ap (λ (b : Body). length (bodyText t b)) (g .1) in
+    (p, omega (arith, e ∙ part-length t (g .0 .0) (g .0 .1 .0) (g .0 .1 .1 .0) p, c .before .before .before .before .before .before .pre .1))
 
--- src/lib.rt:170:1
 same-length : tie.Need-same-length
 same-length c = search needs
 
--- src/lib.rt:170:1
 returns : tie.Need-returns
-returns c = ?
+unfolding bodyText numeral digits
+returns c =
+    let a = c .before .before .before .before .before .before .before .before .before .before .args in
+    let t = a .text .now in
+    let g = c .before .before .before .before .before .before .body .given in
+    let w = c .before .before .write-digits in
+    let e = ap (bodyText t) (g .1) in
+    let q = c .before .before .before .digits-len .ensures in
+    (w .ensures .0 ∙ q ∙ sym (ap length e ∙ length-numeral (g .0 .1 .1 .0) (g .0 .1 .0) (g .0 .0)), w .ensures .1 ∙ ap (λ (k : ℕ). laid (a .out .now) (lettersOf (g .0 .1 .1 .0) (digitsIn (g .0 .1 .0) k (g .0 .0)))) q ∙ ap (laid (a .out .now)) (sym e))
 
--- src/lib.rt:170:1
 same-length-2 : tie.Need-same-length-2
 same-length-2 c = search needs
 
--- src/lib.rt:170:1
 returns-2 : tie.Need-returns-2
-returns-2 c = ?
+unfolding bodyText
+returns-2 c =
+    let a = c .before .before .before .before .before .before .before .before .before .args in
+    let t = a .text .now in
+    let g = c .before .before .before .before .before .body2 .given in
+    let w = c .before .before .write-grouped in
+    let e = ap (bodyText t) (g .1) in
+    (w .ensures .0 ∙ sym (ap length e), w .ensures .1 ∙ ap (laid (a .out .now)) (sym e))
 
--- src/lib.rt:170:1
 same-length-3 : tie.Need-same-length-3
 same-length-3 c = search needs
 
--- src/lib.rt:170:1
 returns-3 : tie.Need-returns-3
-returns-3 c = ?
+unfolding bodyText
+returns-3 c =
+    let a = c .before .before .before .before .before .before .before .before .before .args in
+    let t = a .text .now in
+    let g = c .before .before .before .before .before .body3 .given in
+    let w = c .before .before .write-hex-float in
+    let e = ap (bodyText t) (g .1) in
+    (w .ensures .0 ∙ sym (ap length e), w .ensures .1 ∙ ap (laid (a .out .now)) (sym e))
 
--- src/lib.rt:170:1
 same-length-4 : tie.Need-same-length-4
 same-length-4 c = search needs
 
--- src/lib.rt:170:1
 returns-4 : tie.Need-returns-4
-returns-4 c = ?
+unfolding bodyText
+returns-4 c =
+    let a = c .before .before .before .before .before .before .before .before .before .args in
+    let t = a .text .now in
+    let g = c .before .before .before .before .before .body4 .given in
+    let p = subst (Fits t) (g .1) (c .before .before .before .before .before .before .before .before .before .pre .0) in
+    let w = c .before .before .write-word in
+    let e = ap (bodyText t) (g .1) in
+    (w .ensures .0 ∙ sym (ap length e ∙ named-length (g .0 .0) (g .0 .1 .0) (g .0 .1 .1 .0) p), w .ensures .1 ∙ ap (laid (a .out .now)) (sym e))
 
--- src/lib.rt:170:1
 same-length-5 : tie.Need-same-length-5
 same-length-5 c = search needs
 
--- src/lib.rt:170:1
 returns-5 : tie.Need-returns-5
-returns-5 c = ?
+unfolding bodyText
+returns-5 c =
+    let a = c .before .before .before .before .before .before .before .before .before .args in
+    let t = a .text .now in
+    let g = c .before .before .before .before .before .body5 .given in
+    let p = subst (Fits t) (g .1) (c .before .before .before .before .before .before .before .before .before .pre .0) in
+    let w = c .before .before .write-signed in
+    let e = ap (bodyText t) (g .1) in
+    (w .ensures .0 ∙ sym (ap length e ∙ signed-length (g .0 .0) (g .0 .1 .0) (g .0 .1 .1 .0) p), w .ensures .1 ∙ ap (laid (a .out .now)) (sym e))
 
--- src/lib.rt:170:1
 same-length-6 : tie.Need-same-length-6
 same-length-6 c = search needs
 
--- src/lib.rt:170:1
 returns-6 : tie.Need-returns-6
-returns-6 c = ?
+unfolding bodyText
+returns-6 c =
+    let a = c .before .before .before .before .before .before .before .before .before .args in
+    let t = a .text .now in
+    let g = c .before .before .before .before .before .body6 .given in
+    let w = c .before .before .write-char in
+    let e = ap (bodyText t) (g .1) in
+    (w .ensures .0 ∙ sym (ap length e ∙ length-cased (g .0 .1 .0) (utf8Of (g .0 .0))), w .ensures .1 ∙ ap (laid (a .out .now)) (sym e))
 
--- src/lib.rt:170:1
 same-length-7 : tie.Need-same-length-7
 same-length-7 c = search needs
 
--- src/lib.rt:170:1
 returns-7 : tie.Need-returns-7
-returns-7 c = ?
+unfolding bodyText
+returns-7 c =
+    let a = c .before .before .before .before .before .before .before .before .before .args in
+    let t = a .text .now in
+    let g = c .before .before .before .before .before .body7 .given in
+    let p = subst (Fits t) (g .1) (c .before .before .before .before .before .before .before .before .before .pre .0) in
+    let w = c .before .before .write-part in
+    let e = ap (bodyText t) (g .1) in
+    (w .ensures .0 ∙ sym (ap length e ∙ part-length t (g .0 .0) (g .0 .1 .0) (g .0 .1 .1 .0) p), w .ensures .1 ∙ ap (laid (a .out .now)) (sym e))
 
 pub write-body-spec : {M : Type 1} → statement M
 write-body-spec =

@@ -1,8 +1,10 @@
 -- `bodies::write_part` meets its contract. Assumes nothing.
-use Prim.Native.Nat.{_+_, _-_}
+use Prim.Native.Nat.{ℕ, _+_, _-_}
 use mathlib.Core.Path.{_≡_, _∙_, ap}
-use lib.ListN.{length-take, length-drop}
+use lib.ListN.{take, drop, length-take, length-drop}
 use native.Mathlib.Omega.{arith}
+use Rattle.writing.specs.Laid.{laid}
+use Rattle.strings.specs.Cut.{cased}
 use borrow.Author.Needs.{needs}
 use Rattle.bodies.proofs.write_part.Statement.{statement}
 use Rattle.bodies.proofs.write_part.Tie as tie
@@ -30,8 +32,7 @@ returns c =
     let a = c .before .before .before .before .before .before .before .args in
     let w = c .before .before .write-cased in
     let e : a .start + a .n - a .start ≡ a .n = omega arith in
-    let p = c .before .before .before .before .before .before .before .pre in
-    simp e (w .ensures .0 ∙ simp (e, length-take, length-drop) (omega arith), w .ensures .1)
+    (w .ensures .0 ∙ simp (length-take, length-drop) (omega (arith, c .before .before .before .before .before .before .before .pre)), w .ensures .1 ∙ ap (λ (n : ℕ). laid (a .out .now) (cased (a .upper) (take n (drop (a .start) (a .text .now))))) e)
 
 pub write-part-spec : {M : Type 1} → statement M
 write-part-spec =

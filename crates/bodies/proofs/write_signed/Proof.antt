@@ -1,7 +1,6 @@
 -- `bodies::write_signed` meets its contract. Assumes nothing.
 use Prim.Native.Nat.{ℕ, _-_, _<_}
-use mathlib.Core.Path.{_≡_, refl, sym, ap, _∙_}
-use mathlib.Core.Bool.{true}
+use mathlib.Core.Path.{refl, sym, ap, _∙_}
 use mathlib.Core.List.{List, [], _∷_}
 use lib.ListN.{length, take, set, length-set, length-take, length-drop}
 use native.Mathlib.Omega.{arith}
@@ -34,7 +33,7 @@ sub-write-decimal-2 c = search needs
 
 write-decimal-requires : tie.Need-write-decimal-requires
 write-decimal-requires c κs =
-    let p = simp (c .before .before .before .if1 .taken) at (c .before .before .before .before .before .pre) in
+    let p = simp (c .before .before .if1 .taken) at (c .before .before .before .before .pre) in
     (omega (arith, p .0), simp (length-take, length-drop, length-set) (omega (arith, p .1)))
 
 add-result : tie.Need-add-result
