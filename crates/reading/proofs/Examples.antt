@@ -7,13 +7,14 @@ use Rattle.numerals.specs.Grouping.{grouped}
 use Rattle.numerals.specs.Integers.{intOf, bitsOf}
 use Rattle.numerals.specs.Params.{leadingDigits, numberTaken, paramAt}
 use Rattle.layout.specs.Frame.{spaces, headText, tailText, framed, spare, frameOf}
-use Rattle.binary64.specs.Fields.{exponentField, fractionField, significand, units, scaledBits}
+use Rattle.binary64.specs.Fields.{negative, exponentField, fractionField, categoryOf, significand, units, scaledBits}
 use Rattle.binary64.specs.Rounding.{nearestTo, keptDigits}
 use Rattle.binary64.specs.HexFloat.{shortest, rounded, hexFloatOf, exponentText, hexFloatText}
 use Rattle.reading.specs.Kept.{kept}
+use Rattle.reading.specs.Nearness.{wholeAt, valueAt}
 use Rattle.reading.specs.Reading.{digitOf, digitsFrom, wholeNumber, withMinus, beforeClose, readDecimal, afterPrefix, readBits, cutAt, readMagnitude, readFloat, readPiece}
 use Rattle.reading.specs.Examples.{rows, allRight}
 
 pub examples : T (allRight rows)
-unfolding mul ofBits toBits laid digitsIn places placesWithin digits letterOf lettersOf numberFrom numberOf numeral grouped intOf bitsOf leadingDigits numberTaken paramAt spaces headText tailText framed spare frameOf exponentField fractionField significand units scaledBits nearestTo keptDigits shortest rounded hexFloatOf exponentText hexFloatText kept digitOf digitsFrom wholeNumber withMinus beforeClose readDecimal afterPrefix readBits cutAt readMagnitude readFloat readPiece
+unfolding negative categoryOf wholeAt valueAt mul ofBits toBits laid digitsIn places placesWithin digits letterOf lettersOf numberFrom numberOf numeral grouped intOf bitsOf leadingDigits numberTaken paramAt spaces headText tailText framed spare frameOf exponentField fractionField significand units scaledBits nearestTo keptDigits shortest rounded hexFloatOf exponentText hexFloatText kept digitOf digitsFrom wholeNumber withMinus beforeClose readDecimal afterPrefix readBits cutAt readMagnitude readFloat readPiece
 examples = tt

@@ -19,9 +19,13 @@ use Rattle.layout.specs.Frame.{framed, frameOf}
 use Rattle.layout.specs.declared.Mark.the-variants.{NoMark, Plus, Space, Minus, Brackets}
 use Rattle.layout.specs.declared.Prefix.the-variants.{NoPrefix, Octal, HexLower, HexUpper}
 use Rattle.layout.specs.declared.Adjust.the-variants.{Right, Left, Zeros}
-use Rattle.binary64.specs.Fields.{exponentField, fractionField, units, scaledBits}
+use Rattle.binary64.specs.Fields.{negative, exponentField, fractionField, categoryOf, units, scaledBits}
+use Rattle.binary64.specs.declared.FpCategory.{FpCategory}
+use Rattle.binary64.specs.declared.FpCategory.the-variants.{Nan, Infinite, Zero, Subnormal, Normal}
 use Rattle.binary64.specs.Rounding.{nearestTo, keptDigits}
 use Rattle.binary64.specs.HexFloat.{hexFloatOf, hexFloatText}
+use Rattle.reading.specs.Kept.{kept}
+use Rattle.reading.specs.Nearness.{wholeAt, valueAt, apart}
 use Rattle.reading.specs.Reading.{Reading, Unread, Integer, Bits, Float, readPiece}
 
 -- an ASCII text's bytes
@@ -48,6 +52,13 @@ shownReading Unread = ascii "unread"
 shownReading (Integer z) = shownInt z
 shownReading (Bits n) = decimal n
 shownReading (Float r) = shownSign (r .negative) ++ (decimal (r .m) ++ (32 ∷ (decimal (r .f) ++ (32 ∷ shownInt (r .e)))))
+
+abbrev pub shownCategory : FpCategory → List ℕ
+shownCategory Nan = ascii "NaN"
+shownCategory Infinite = ascii "infinite"
+shownCategory Zero = ascii "zero"
+shownCategory Subnormal = ascii "subnormal"
+shownCategory Normal = ascii "normal"
 
 pub record Row : Type 0 where
   pub given : List ℕ
@@ -79,6 +90,12 @@ rows =
     ∷ record { given = framed (frameOf 6 Right Plus NoPrefix 2) (decimal 42); text = "   +42" }
     ∷ record { given = framed (frameOf 0 Right Space Octal 1) (decimal 7); text = " 07" }
     ∷ record { given = framed (frameOf 3 Left NoMark HexUpper 1) (decimal 7); text = "0X7" }
+    ∷ record { given = shownSign (negative 0x8000_0000_0000_0000); text = "-" }
+    ∷ record { given = shownCategory (categoryOf 0x7ff0_0000_0000_0001); text = "NaN" }
+    ∷ record { given = shownCategory (categoryOf 0xfff0_0000_0000_0000); text = "infinite" }
+    ∷ record { given = shownCategory (categoryOf 0x8000_0000_0000_0000); text = "zero" }
+    ∷ record { given = shownCategory (categoryOf 0x000f_ffff_ffff_ffff); text = "subnormal" }
+    ∷ record { given = shownCategory (categoryOf 0x0010_0000_0000_0000); text = "normal" }
     ∷ record { given = decimal (exponentField 0x3ff0_0000_0000_0000); text = "1023" }
     ∷ record { given = decimal (fractionField 0x3ff8_0000_0000_0000); text = "2251799813685248" }
     ∷ record { given = decimal (units 0x0020_0000_0000_0001); text = "9007199254740994" }
@@ -96,6 +113,7 @@ rows =
     ∷ record { given = hexFloatText true (hexFloatOf 0x3ffa_bcde_f012_3456 (Literal 15)); text = "1.ABCDEF012345600P0" }
     ∷ record { given = hexFloatText false (hexFloatOf 1 (Literal 1)); text = "1.0p-1074" }
     ∷ record { given = hexFloatText false (hexFloatOf 1 (Literal 20)); text = "0.0000000000001p-1022" }
+    ∷ record { given = kept (ascii " +1,2 F"); text = "12f" }
     ∷ record { given = shownReading (readPiece 100 (ascii "  (1,234   )")); text = "-1234" }
     ∷ record { given = shownReading (readPiece 100 (ascii "+007 ")); text = "7" }
     ∷ record { given = shownReading (readPiece 100 (ascii "(7")); text = "unread" }
@@ -109,6 +127,11 @@ rows =
     ∷ record { given = shownReading (readPiece 97 (ascii " -0x0.0p0")); text = "-0 1 0" }
     ∷ record { given = shownReading (readPiece 97 (ascii "0x1.p3")); text = "unread" }
     ∷ record { given = shownReading (readPiece 115 (ascii "7")); text = "unread" }
+    ∷ record { given = decimal (wholeAt 10 3 1 (pos 2)); text = "768" }
+    ∷ record { given = decimal (wholeAt 10 3 1 (negsuc 1)); text = "48" }
+    ∷ record { given = decimal (valueAt 1076 1); text = "4" }
+    ∷ record { given = decimal (apart true 3 true 5); text = "2" }
+    ∷ record { given = decimal (apart false 3 true 5); text = "8" }
     ∷ []
 
 abbrev pub same : List ℕ → List ℕ → Bool

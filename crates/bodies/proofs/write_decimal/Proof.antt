@@ -26,7 +26,7 @@ write-digits-requires : tie.Need-write-digits-requires
 write-digits-requires c κs = (lit≤ tt, lit≤ tt, omega (arith, c .before .decimal-len .ensures, twenty-places (c .before .before .before .args .value) (search needs)))
 
 array-share-prefix-buffer : tie.Need-array-share-prefix-buffer
-array-share-prefix-buffer c = omega (arith, small (c .before .before .before .before .before .before ))
+array-share-prefix-buffer c = omega (arith, small (c .before .before .before .before .before .before))
 
 slice-aggregate-write-text : tie.Need-slice-aggregate-write-text
 slice-aggregate-write-text c = sym (length-take-le _ _ (array-share-prefix-buffer (c .before)))
@@ -43,7 +43,7 @@ returns c =
     let w = c .before .before .write-text .ensures in
     let v = c .before .before .before .before .before .before .write-digits in
     let e = decimal-cut _ (v .last .0) (a .value) _ (a .n) (v .ensures .1) (c .before .before .before .before .before .before .before .before .decimal-len .ensures) (c .before .before .before .before .before .before .before .before .before .before .pre .0) in
-    (w .0 ∙ length-take-le (a .n) (v .last .0) (array-share-prefix-buffer (c .before .before .before .before )), w .1 ∙ ap (laid (a .out .now)) e)
+    (w .0 ∙ length-take-le (a .n) (v .last .0) (array-share-prefix-buffer (c .before .before .before .before)), w .1 ∙ ap (laid (a .out .now)) e)
 
 pub write-decimal-spec : {M : Type 1} → statement M
 write-decimal-spec =

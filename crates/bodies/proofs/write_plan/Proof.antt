@@ -18,37 +18,37 @@ unfolding planText
 room c = omega (arith, framed-length (c .args .plan .frame) (bodyText (c .args .text .now) (c .args .plan .body)), c .pre .1)
 
 write-head-requires : tie.Need-write-head-requires
-write-head-requires c κs = omega (arith, room (c .before .before .before .before ))
+write-head-requires c κs = omega (arith, room (c .before .before .before .before))
 
 sub-write-body : tie.Need-sub-write-body
-sub-write-body c = omega (arith, room (c .before .before .before .before .before .before .before ))
+sub-write-body c = omega (arith, room (c .before .before .before .before .before .before .before))
 
 part-write-body-start : tie.Need-part-write-body-start
-part-write-body-start c = omega (arith, room (c .before .before .before .before .before .before .before ))
+part-write-body-start c = omega (arith, room (c .before .before .before .before .before .before .before))
 
 part-write-body-end : tie.Need-part-write-body-end
 part-write-body-end c = search needs
 
 write-body-requires : tie.Need-write-body-requires
-write-body-requires c κs = (c .before .before .before .before .before .before .before .before .pre .0, simp (length-take, length-drop) (omega (arith, room (c .before .before .before .before .before .before .before .before ))))
+write-body-requires c κs = (c .before .before .before .before .before .before .before .before .pre .0, simp (length-take, length-drop) (omega (arith, room (c .before .before .before .before .before .before .before .before))))
 
 add-b : tie.Need-add-b
-add-b c = omega (arith, room (c .before .before .before .before .before .before .before .before .before .before .before ))
+add-b c = omega (arith, room (c .before .before .before .before .before .before .before .before .before .before .before))
 
 sub-write-tail : tie.Need-sub-write-tail
-sub-write-tail c = omega (arith, room (c .before .before .before .before .before .before .before .before .before .before .before ))
+sub-write-tail c = omega (arith, room (c .before .before .before .before .before .before .before .before .before .before .before))
 
 part-write-tail-start : tie.Need-part-write-tail-start
-part-write-tail-start c = omega (arith, room (c .before .before .before .before .before .before .before .before .before .before .before ))
+part-write-tail-start c = omega (arith, room (c .before .before .before .before .before .before .before .before .before .before .before))
 
 part-write-tail-end : tie.Need-part-write-tail-end
 part-write-tail-end c = search needs
 
 write-tail-requires : tie.Need-write-tail-requires
-write-tail-requires c κs = simp (length-take, length-drop) (omega (arith, room (c .before .before .before .before .before .before .before .before .before .before .before .before )))
+write-tail-requires c κs = simp (length-take, length-drop) (omega (arith, room (c .before .before .before .before .before .before .before .before .before .before .before .before)))
 
 add-result : tie.Need-add-result
-add-result c = omega (arith, room (c .before .before .before .before .before .before .before .before .before .before .before .before .before .before .before ))
+add-result c = omega (arith, room (c .before .before .before .before .before .before .before .before .before .before .before .before .before .before .before))
 
 same-length : tie.Need-same-length
 same-length c = search needs

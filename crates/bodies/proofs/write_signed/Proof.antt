@@ -44,7 +44,7 @@ returns-2 c =
     let a = c .before .before .before .before .before .before .before .args in
     let d = a .out .now in
     let w = c .before .before .write-decimal in
-    let h : 0 < length d = slice-write-out (c .before .before .before .before ) in
+    let h : 0 < length d = slice-write-out (c .before .before .before .before) in
     let t : List ℕ = 45 ∷ [] in
     let e = laid-next d t (take (a .n - 1) (decimal (a .value))) (set d 0 45) (w .last .0) 1 (laid-first d 45 h) refl (w .ensures .1) in
     simp (c .before .before .before .before .before .if1 .taken) (omega (arith, w .ensures .0, c .before .before .before .before .if2 .left), e ∙ ap (laid d) (signed-cut (a .value) (a .n) (c .before .before .before .before .if2 .left)))
