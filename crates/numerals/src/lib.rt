@@ -206,11 +206,11 @@ pub fn digits_end(s: &[u8], at: usize) -> usize
 {
     let mut end = at;
     while end < s.len() {
-        let b = s[end];
-        if b < 48 {
+        let byte = s[end];
+        if byte < 48 {
             return end;
         }
-        if 57 < b {
+        if 57 < byte {
             return end;
         }
         end = end + 1;
