@@ -1,2 +1,1 @@
-pub mod Cased
-pub mod Lengths
+mod Marks

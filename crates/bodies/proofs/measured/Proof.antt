@@ -8,8 +8,8 @@ use Rattle.numerals.proofs.Grouping.{length-grouped-decimal}
 use Rattle.binary64.proofs.Texts.{hex-length, exponent-length}
 use Rattle.bodies.specs.declared.Body.{Body}
 use Rattle.bodies.specs.Bodies.{Fits, bodyText}
-use Rattle.bodies.proofs.Cased.{length-cased}
-use Rattle.bodies.proofs.Lengths.{based-places, twenty-places, scalar-length, named-length, signed-length, part-length}
+use Rattle.words.proofs.Cased.{length-cased}
+use Rattle.words.proofs.Lengths.{based-places, twenty-places, scalar-length, named-length, signed-length, part-length}
 use borrow.Author.Needs.{needs}
 use Rattle.bodies.proofs.measured.Statement.{statement}
 use Rattle.bodies.proofs.measured.Tie as tie
@@ -117,7 +117,7 @@ returns-7 c =
     let g = c .before .body7 .given in
     let e = ap (λ (b : Body). length (bodyText t b)) (g .1) in
     let p = subst (Fits t) (g .1) (c .before .before .before .before .pre) in
-    (sym (e ∙ part-length t (g .0 .0) (g .0 .1 .0) (g .0 .1 .1 .0) p), search needs)
+    (sym (e ∙ part-length t (g .0 .0) (g .0 .1 .0) p), search needs)
 
 pub measured-spec : {M : Type 1} → statement M
 measured-spec =

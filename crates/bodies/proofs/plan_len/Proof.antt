@@ -4,7 +4,7 @@ use native.Mathlib.Omega.{arith}
 use Rattle.layout.specs.Frame.{closingByte}
 use Rattle.layout.proofs.Lengths.{head-length, tail-length, framed-length}
 use Rattle.bodies.specs.Bodies.{bodyText, planText}
-use Rattle.bodies.proofs.Lengths.{marks-le, byte-le}
+use Rattle.bodies.proofs.Marks.{marks-le, byte-le}
 use borrow.Author.Needs.{needs}
 use Rattle.bodies.proofs.plan_len.Statement.{statement}
 use Rattle.bodies.proofs.plan_len.Tie as tie

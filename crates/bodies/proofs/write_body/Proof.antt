@@ -9,8 +9,8 @@ use Rattle.numerals.proofs.Digits.{length-numeral}
 use Rattle.strings.specs.Scalars.{utf8Of}
 use Rattle.bodies.specs.declared.Body.{Body}
 use Rattle.bodies.specs.Bodies.{Fits, bodyText}
-use Rattle.bodies.proofs.Cased.{length-cased}
-use Rattle.bodies.proofs.Lengths.{base-range, named-length, signed-length, part-length}
+use Rattle.words.proofs.Cased.{length-cased}
+use Rattle.words.proofs.Lengths.{base-range, named-length, signed-length, part-length}
 use borrow.Author.Needs.{needs}
 use Rattle.bodies.proofs.write_body.Statement.{statement}
 use Rattle.bodies.proofs.write_body.Tie as tie
@@ -100,9 +100,6 @@ enum-known-body-7 c = search needs
 cast-write-part : tie.Need-cast-write-part
 cast-write-part c = search needs
 
-cast-write-part-2 : tie.Need-cast-write-part-2
-cast-write-part-2 c = search needs
-
 write-part-requires : tie.Need-write-part-requires
 unfolding bodyText
 write-part-requires c κs =
@@ -111,7 +108,7 @@ write-part-requires c κs =
     let g = c .before .before .body7 .given in
     let p = subst (Fits t) (g .1) (c .before .before .before .before .before .before .pre .0) in
     let e = ap (λ (b : Body). length (bodyText t b)) (g .1) in
-    (p, omega (arith, e ∙ part-length t (g .0 .0) (g .0 .1 .0) (g .0 .1 .1 .0) p, c .before .before .before .before .before .before .pre .1))
+    (p, omega (arith, e ∙ part-length t (g .0 .0) (g .0 .1 .0) p, c .before .before .before .before .before .before .pre .1))
 
 same-length : tie.Need-same-length
 same-length c = search needs
@@ -206,7 +203,7 @@ returns-7 c =
     let p = subst (Fits t) (g .1) (c .before .before .before .before .before .before .before .before .before .pre .0) in
     let w = c .before .before .write-part in
     let e = ap (bodyText t) (g .1) in
-    (w .ensures .0 ∙ sym (ap length e ∙ part-length t (g .0 .0) (g .0 .1 .0) (g .0 .1 .1 .0) p), w .ensures .1 ∙ ap (laid (a .out .now)) (sym e))
+    (w .ensures .0 ∙ sym (ap length e ∙ part-length t (g .0 .0) (g .0 .1 .0) p), w .ensures .1 ∙ ap (laid (a .out .now)) (sym e))
 
 pub write-body-spec : {M : Type 1} → statement M
 write-body-spec =
@@ -229,7 +226,6 @@ write-body-spec =
     write-char-requires
     enum-known-body-7
     cast-write-part
-    cast-write-part-2
     write-part-requires
     same-length
     returns

@@ -1,0 +1,2 @@
+pub mod Cased
+pub mod Lengths
