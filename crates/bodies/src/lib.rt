@@ -113,10 +113,10 @@ pub fn write_body(out: &mut [u8], text: &[u8], body: Body) -> usize
     }
 }
 
-// The length of a body in its frame; nothing is written.
+// The length of a body in its frame, far below what 64 bits hold; nothing is written.
 pub fn plan_len(text: &[u8], plan: Plan) -> u64
     requires { ⌜ Fits (now text) (plan .body) ⌝ }
-    ensures { λ r. ⌜ r ≡ length (planText (now (text .entry)) plan) ⌝ }
+    ensures { λ r. ⌜ (r ≡ length (planText (now (text .entry)) plan)) × (r < 2 ^ 42) ⌝ }
 {
     let frame = plan.frame;
     let body = plan.body;

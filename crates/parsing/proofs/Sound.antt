@@ -23,6 +23,7 @@ use Rattle.specifiers.specs.declared.LetterTaken.the-variants as L
 use Rattle.specifiers.specs.declared.Specifier.{Specifier}
 use Rattle.specifiers.specs.declared.Specifier.the-variants as S
 use Rattle.parsing.specs.Pieces.{indexAt, afterSpecifier, elementOf, afterIndex, sameArgument, afterPercent, pieceFrom, pieceAt}
+use Rattle.parsing.specs.Listed.{PieceIn}
 use Rattle.parsing.specs.declared.Index.{Index}
 use Rattle.parsing.specs.declared.Index.the-variants as I
 use Rattle.parsing.specs.declared.Piece.{Piece}
@@ -58,12 +59,6 @@ module _ (s : List ℕ) (a k : ℕ) where
   specifier-of : (at : ℕ) → Of a (specifierAt s at a k)
   unfolding specifierAt
   specifier-of at = of-flags (flagsFrom (drop at s) at noFlags)
-
--- A fixed piece ends inside the format, and an element's argument counts from 1 up to the last kind.
-abbrev pub PieceIn : List ℕ → List ℕ → Piece → Type 0
-PieceIn s ks (Fixed st len) = st + len ≤ length s
-PieceIn s ks NewLine = Unit {0}
-PieceIn s ks (AnElement e) = (1 ≤ e .argument) × (e .argument ≤ length ks)
 
 abbrev Sound : List ℕ → List ℕ → Step → Type 0
 Sound s ks (Found p n) = n .at ≤ length s → PieceIn s ks p

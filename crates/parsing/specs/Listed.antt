@@ -1,9 +1,11 @@
 -- The pieces of a format in order, each with the part of the format that it takes up.
-use Prim.Native.Nat.{ℕ, zero, suc, _<_}
+use Prim.Native.Nat.{ℕ, zero, suc, _+_, _≤_, _<_}
 use mathlib.Core.Path.{_≡_}
 use mathlib.Core.List.{List, [], _∷_}
+use lib.ListN.{length}
 use Rattle.parsing.specs.Pieces.{start, pieceAt}
 use Rattle.parsing.specs.declared.Piece.{Piece}
+use Rattle.parsing.specs.declared.Piece.the-variants.{Fixed, NewLine, Element as AnElement}
 use Rattle.parsing.specs.declared.Cursor.{Cursor}
 use Rattle.parsing.specs.declared.Step.{Step}
 use Rattle.parsing.specs.declared.Step.the-variants.{Found, Refused, End}
@@ -31,3 +33,9 @@ placed s ks = placedFrom 513 s ks start
 abbrev pub Covers : ℕ → ℕ → List Placed → Type 0
 Covers a b [] = a ≡ b
 Covers a b (p ∷ ps) = (p .from ≡ a) × (a < p .to) × Covers (p .to) b ps
+
+-- A fixed piece ends inside the format, and an element's argument counts from 1 up to the last kind.
+abbrev pub PieceIn : List ℕ → List ℕ → Piece → Type 0
+PieceIn s ks (Fixed st len) = st + len ≤ length s
+PieceIn s ks NewLine = Unit {0}
+PieceIn s ks (AnElement e) = (1 ≤ e .argument) × (e .argument ≤ length ks)

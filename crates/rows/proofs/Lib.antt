@@ -1,4 +1,4 @@
 mod Numbers
-mod Widths
+pub mod Widths
 mod Entries
 pub mod Rows

@@ -1,6 +1,6 @@
 -- What a row that keeps its layout has. Assumes nothing.
 use Prim.Native.Nat.{ℕ, zero, suc, _+_, _-_, _*_, _^_, _≤_, _<_}
-use mathlib.Core.Path.{_≡_, refl, sym, ap, _∙_}
+use mathlib.Core.Path.{_≡_, refl, sym, ap, subst, _∙_}
 use mathlib.Core.Bool.{Bool, true, false, _&&_}
 use mathlib.Core.List.{List, [], _∷_}
 use native.Mathlib.Nat.{add-zero, pow-suc, one-le-pow}
@@ -10,7 +10,10 @@ use lib.ListN.{length, getD, take, drop, length-drop}
 use lib.Seq.{getD-take, getD-drop, length-take-le}
 use borrow.Author.Tests.{leb-true, eqb-true}
 use Rattle.rows.specs.Numbers.{numberAt, littleEndian}
-use Rattle.rows.specs.Row.{countOf, textSize, kindsOf, textOf, kindByteOf, valueOf, entryAt, entriesFrom, isRow}
+use Rattle.rows.specs.Row.{countOf, textSize, kindsOf, textOf, kindByteOf, valueOf, entryAt, entriesFrom, isRow, rowOf}
+use Rattle.rows.specs.declared.RowRead.{RowRead}
+use Rattle.rows.specs.declared.RowRead.the-variants.{Row, Broken}
+use Rattle.writing.specs.Choose.{choose}
 
 -- both of two tests
 both : (a b : Bool) → (a && b) ≡ true → (a ≡ true) × (b ≡ true)
@@ -92,3 +95,20 @@ module _ (row : List ℕ) (kept : isRow row ≡ true) where
   entry a h k =
       let e : 1 + (a - 1) ≡ a = omega arith in
       ap (λ (i : ℕ). entryAt row i) (sym e) ∙ one-of (countOf row) row 1 (layout row kept .entries) (a - 1) (omega arith)
+
+-- What the answer of reading a row says.
+abbrev Answered : List ℕ → RowRead → Bool → Type 0
+Answered row (Row n) b = (b ≡ true) × (n ≡ countOf row)
+Answered row Broken b = b ≡ false
+
+answered : (row : List ℕ) (b : Bool) → Answered row (choose b (λ _. Row (countOf row)) (λ _. Broken)) b
+answered row true = (refl, refl)
+answered row false = refl
+
+pub row-read : (row : List ℕ) (n : ℕ) → rowOf row ≡ Row n → (isRow row ≡ true) × (n ≡ countOf row)
+unfolding rowOf
+row-read row n e = subst (λ (x : RowRead). Answered row x (isRow row)) e (answered row (isRow row))
+
+pub row-broken : (row : List ℕ) → rowOf row ≡ Broken → isRow row ≡ false
+unfolding rowOf
+row-broken row e = subst (λ (x : RowRead). Answered row x (isRow row)) e (answered row (isRow row))

@@ -39,6 +39,14 @@ pub fn number8(s: &[u8], at: usize) -> u64
     number4(s, at) + 4294967296 * number4(s, at + 4)
 }
 
+// How many arguments a row says it has.
+pub fn count_of(row: &[u8]) -> usize
+    requires { ⌜ 2 ≤ length (now row) ⌝ }
+    ensures { λ r. ⌜ r ≡ countOf (now (row .entry)) ⌝ }
+{
+    number2(row, 0) as usize
+}
+
 // Whether a value is a signed integer of this width, sign-extended to 64 bits.
 fn is_signed(width: u32, value: u64) -> bool
     requires { ⌜ (1 ≤ width) × (width ≤ 64) ⌝ }

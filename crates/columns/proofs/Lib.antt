@@ -1,0 +1,5 @@
+pub mod Letters
+mod Frames
+mod Integers
+mod Floats
+pub mod Columns

@@ -1,0 +1,53 @@
+-- Demand 3, whole: one claim over a format and a row, of the bytes and ends that printing leaves. 01, "What demand 3 compares".
+use Prim.Native.Nat.{ℕ, zero, suc, _-_, _<_}
+use mathlib.Core.Path.{_≡_}
+use mathlib.Core.List.{List}
+use lib.ListN.{length, getD, take, drop}
+use Rattle.parsing.specs.Listed.{Placed, placed}
+use Rattle.parsing.specs.declared.Piece.{Piece}
+use Rattle.parsing.specs.declared.Piece.the-variants.{Fixed, NewLine, Element as AnElement}
+use Rattle.rows.specs.Row.{kindsOf, kindByteOf, valueOf}
+use Rattle.pieces.specs.Texts.{pieceText}
+use Rattle.columns.specs.Columns.{ReadsBack}
+use Rattle.printing.specs.Printing.{texts, joined}
+use Rattle.printing.specs.declared.Outcome.{Outcome}
+use Rattle.printing.specs.declared.Outcome.the-variants.{Accepted, Refused}
+
+-- "the end before (0 for the first)"
+abbrev pub endBefore : List ℕ → ℕ → ℕ
+endBefore ends zero = 0
+endBefore ends (suc k) = getD ends k 0
+
+-- "the output's bytes from the end before .. to the k-th"; pieces count from 0 here
+abbrev pub cutOut : List ℕ → List ℕ → ℕ → List ℕ
+cutOut out ends k = take (getD ends k 0 - endBefore ends k) (drop (endBefore ends k) out)
+
+-- The k-th piece of a format. (Behind the last, which is never asked for, stands `%n`.)
+abbrev pub pieceOf : List ℕ → List ℕ → ℕ → Piece
+pieceOf s row k = getD (placed s (kindsOf row)) k (record { piece = NewLine; from = 0; to = 0 }) .piece
+
+-- "the piece of every %d %x %o %a, read by 01's rule, denotes its value": the row's under the argument that the element takes.
+abbrev pub DenotesValue : List ℕ → Piece → List ℕ → Type 0
+DenotesValue row (Fixed start len) bytes = Unit {0}
+DenotesValue row NewLine bytes = Unit {0}
+DenotesValue row (AnElement e) bytes = ReadsBack e (kindByteOf row (e .argument)) (valueOf row (e .argument)) bytes
+
+-- Of a format s and a row, the length n and count k returned, and the output and ends left.
+pub record Demand3 (s row : List ℕ) (n k : ℕ) (out ends : List ℕ) : Type 0 where
+  -- as many as the format's pieces
+  pub count : k ≡ length (placed s (kindsOf row))
+  -- "The k-th end is the length of the first k texts together"
+  pub sums : (i : ℕ) → i < k → getD ends i 0 ≡ length (joined (take (suc i) (texts s row)))
+  -- "the length returned is the last end, 0 without pieces"
+  pub total : n ≡ endBefore ends k
+  -- the pieces joined are the text
+  pub whole : take n out ≡ joined (texts s row)
+  -- "the output's bytes from the end before (0 for the first) to the k-th are piece k and equal its text"
+  pub cuts : (i : ℕ) → i < k → cutOut out ends i ≡ pieceText s row (pieceOf s row i)
+  -- every column, wherever it stands, read from its bytes and its letter alone
+  pub columns : (i : ℕ) → i < k → DenotesValue row (pieceOf s row i) (cutOut out ends i)
+
+-- "A format and row print where nothing stops the call."
+abbrev pub Demanded : List ℕ → List ℕ → Outcome → List ℕ → List ℕ → Type 0
+Demanded s row (Accepted n k) out ends = Demand3 s row n k out ends
+Demanded s row (Refused number place) out ends = Unit {0}
