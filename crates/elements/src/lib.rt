@@ -2,11 +2,15 @@
 // Ported from format_string.rs of datafusion-spark 55.2.0 (Apache-2.0; see NOTICE): format_hex_float, format_boolean, format_string and format_str.
 use binary64::FpCategory;
 use bodies::Body;
-use conversions::{Kind, KindByte};
-use layout::{Mark, Prefix};
+use conversions::Kind;
+use conversions::KindByte;
+use layout::Mark;
+use layout::Prefix;
 use numerals::NumericParam;
-use plans::{Planned, Style};
-use specifiers::{Element, Flags};
+use plans::Planned;
+use plans::Style;
+use specifiers::Element;
+use specifiers::Flags;
 use words::Word;
 ghost use mathlib.Core.Path.{_≡_};
 ghost use Prim.Native.Nat.{_^_, _<_};
@@ -40,7 +44,14 @@ fn format_finite(e: Element, bits: u64) -> Planned
         parts: float,
         upper: upper,
     };
-    plans::lay_out(e, plans::fill_of(flags), mark, plans::hex_prefix(upper), n, body)
+    plans::lay_out(
+        e,
+        plans::fill_of(flags),
+        mark,
+        plans::hex_prefix(upper),
+        n,
+        body,
+    )
 }
 
 // NaN or an infinity.
@@ -55,7 +66,14 @@ fn format_named(e: Element, mark: Mark, word: Word) -> Planned
         len: n,
         upper: conversions::is_upper(conversion),
     };
-    plans::lay_out(e, plans::side_of(flags), mark, Prefix::NoPrefix, n as u64, body)
+    plans::lay_out(
+        e,
+        plans::side_of(flags),
+        mark,
+        Prefix::NoPrefix,
+        n as u64,
+        body,
+    )
 }
 
 // %a
@@ -109,7 +127,14 @@ fn format_str(e: Element, part: &[u8]) -> Planned
         len: n as u32,
         upper: conversions::is_upper(conversion),
     };
-    plans::lay_out(e, plans::side_of(flags), Mark::NoMark, Prefix::NoPrefix, n as u64, body)
+    plans::lay_out(
+        e,
+        plans::side_of(flags),
+        Mark::NoMark,
+        Prefix::NoPrefix,
+        n as u64,
+        body,
+    )
 }
 
 // A float: %a alone is printed.

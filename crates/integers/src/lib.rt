@@ -1,9 +1,12 @@
 // How an integer is laid out under each letter.
 // Ported from format_string.rs of datafusion-spark 55.2.0 (Apache-2.0; see NOTICE): format_integer, format_signed, format_unsigned and format_char.
 use bodies::Body;
-use layout::{Mark, Prefix};
-use plans::{Planned, Style};
-use specifiers::{Element, Flags};
+use layout::Mark;
+use layout::Prefix;
+use plans::Planned;
+use plans::Style;
+use specifiers::Element;
+use specifiers::Flags;
 use words::Word;
 ghost use mathlib.Core.Path.{_≡_};
 ghost use Rattle.words.specs.Words.{IsBase};
@@ -29,7 +32,14 @@ fn format_signed(e: Element, negative: bool, value: u64) -> Planned
     let mark = integer_mark(flags, negative);
     if flags.grouping {
         let n = numerals::grouped_len(value) as u64;
-        return plans::lay_out(e, plans::fill_of(flags), mark, Prefix::NoPrefix, n, Body::Grouped { value: value });
+        return plans::lay_out(
+            e,
+            plans::fill_of(flags),
+            mark,
+            Prefix::NoPrefix,
+            n,
+            Body::Grouped { value: value },
+        );
     }
     let n = numerals::decimal_len(value) as u64;
     let body = Body::Digits {
@@ -56,7 +66,14 @@ fn format_unsigned(e: Element, prefix: Prefix, base: u64, value: u64) -> Planned
     if flags.alternate {
         return plans::lay_out(e, plans::fill_of(flags), Mark::NoMark, prefix, n, body);
     }
-    plans::lay_out(e, plans::fill_of(flags), Mark::NoMark, Prefix::NoPrefix, n, body)
+    plans::lay_out(
+        e,
+        plans::fill_of(flags),
+        Mark::NoMark,
+        Prefix::NoPrefix,
+        n,
+        body,
+    )
 }
 
 // %c
@@ -75,7 +92,14 @@ fn format_char(e: Element, negative: bool, value: u64) -> Planned
             scalar: scalar,
             upper: conversions::is_upper(conversion),
         };
-        return plans::lay_out(e, plans::side_of(flags), Mark::NoMark, Prefix::NoPrefix, n, body);
+        return plans::lay_out(
+            e,
+            plans::side_of(flags),
+            Mark::NoMark,
+            Prefix::NoPrefix,
+            n,
+            body,
+        );
     }
     Planned::Stops(16)
 }
@@ -92,7 +116,14 @@ fn format_digits(e: Element, negative: bool, value: u64) -> Planned
         value: value,
         len: n,
     };
-    plans::lay_out(e, plans::side_of(flags), Mark::NoMark, Prefix::NoPrefix, n as u64, body)
+    plans::lay_out(
+        e,
+        plans::side_of(flags),
+        Mark::NoMark,
+        Prefix::NoPrefix,
+        n as u64,
+        body,
+    )
 }
 
 // An integer of this width that is not null.
@@ -105,7 +136,12 @@ pub fn format_integer(e: Element, style: Style, width: u32, value: u64) -> Plann
     match style {
         Style::Decimal => format_signed(e, negative, magnitude),
         Style::Octals => format_unsigned(e, Prefix::Octal, 8, numerals::low_bits(value, width)),
-        Style::Hexadecimal => format_unsigned(e, plans::hex_prefix(conversions::is_upper(conversion)), 16, numerals::low_bits(value, width)),
+        Style::Hexadecimal => format_unsigned(
+            e,
+            plans::hex_prefix(conversions::is_upper(conversion)),
+            16,
+            numerals::low_bits(value, width),
+        ),
         Style::Character => format_char(e, negative, magnitude),
         Style::Plain => format_digits(e, negative, magnitude),
         Style::HexFloat => Planned::Stops(15),

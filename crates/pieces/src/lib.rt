@@ -1,6 +1,7 @@
 // The text of one piece of a format, for a row: what is handed out of the format or the row, its length, and its writer.
 // Ported from format_string.rs of datafusion-spark 55.2.0 (Apache-2.0; see NOTICE): one turn of the loop of Formatter::format.
-use conversions::{Kind, KindByte};
+use conversions::Kind;
+use conversions::KindByte;
 use parsing::Piece;
 use plans::Planned;
 use specifiers::Element;
@@ -131,7 +132,10 @@ pub fn write_piece<'a>(out: &mut [u8], fmt: &'a [u8], row: &'a [u8], piece: Piec
     ensures { λ r. ⌜ (r ≡ length (pieceText (now (fmt .entry)) (now (row .entry)) piece)) × (now (out .exit) ≡ laid (now (out .entry)) (pieceText (now (fmt .entry)) (now (row .entry)) piece)) ⌝ }
 {
     match piece {
-        Piece::Fixed { start: _, len: _ } => writing::write_text(out, unpadded_text(fmt, row, piece)),
+        Piece::Fixed { start: _, len: _ } => writing::write_text(
+            out,
+            unpadded_text(fmt, row, piece),
+        ),
         Piece::NewLine => writing::write_fill(out, 1, 10),
         Piece::Element(e) => write_element(out, fmt, row, e),
     }

@@ -1,10 +1,14 @@
 // How a value is laid out: the body that stands in an element's frame. What every kind of value shares.
 // Ported from format_string.rs of datafusion-spark 55.2.0 (Apache-2.0; see NOTICE): format_string and format_str of a word.
-use bodies::{Body, Plan};
+use bodies::Body;
+use bodies::Plan;
 use conversions::ConversionType;
-use layout::{Adjust, Mark, Prefix};
+use layout::Adjust;
+use layout::Mark;
+use layout::Prefix;
 use numerals::NumericParam;
-use specifiers::{Element, Flags};
+use specifiers::Element;
+use specifiers::Flags;
 use words::Word;
 ghost use mathlib.Core.Path.{_≡_};
 ghost use Prim.Native.Nat.{_^_, _≤_, _<_};
@@ -89,7 +93,14 @@ pub fn fill_of(flags: Flags) -> Adjust
 }
 
 // A body of n bytes in the element's frame.
-pub fn lay_out(e: Element, adjust: Adjust, mark: Mark, prefix: Prefix, n: u64, body: Body) -> Planned
+pub fn lay_out(
+    e: Element,
+    adjust: Adjust,
+    mark: Mark,
+    prefix: Prefix,
+    n: u64,
+    body: Body,
+) -> Planned
     requires { ⌜ n < 2 ^ 40 ⌝ }
     ensures { λ r. ⌜ r ≡ laidOut e adjust mark prefix n body ⌝ }
 {
@@ -128,7 +139,14 @@ pub fn format_word(e: Element, word: Word) -> Planned
         len: n,
         upper: conversions::is_upper(conversion),
     };
-    lay_out(e, side_of(flags), Mark::NoMark, Prefix::NoPrefix, n as u64, body)
+    lay_out(
+        e,
+        side_of(flags),
+        Mark::NoMark,
+        Prefix::NoPrefix,
+        n as u64,
+        body,
+    )
 }
 
 pub fn sign_mark(flags: Flags) -> Mark

@@ -93,9 +93,8 @@ module _ (s row : List ℕ) (n k : ℕ) (ok : Accepts s row n k) (d e : List ℕ
   unfolding laid printedText
   whole-text = take-at (joined (texts s row)) (drop (length (joined (texts s row))) d) n (sym (ok .total))
 
-  -- Demand 3, of every format and row that print.
-  pub demand : AllBytes row → Demand3 s row n k (laid d (printedText s row)) (laid e (endsFrom 0 (texts s row)))
-  demand bytes =
+  over-starts : AllBytes row → Demand3 s row n k (laid d (printedText s row)) (laid e (endsFrom 0 (texts s row)))
+  over-starts bytes =
       let blank : Placed = record { piece = NewLine; from = 0; to = 0 } in
       record {
         count = ok .pieces;
@@ -107,3 +106,7 @@ module _ (s row : List ℕ) (n k : ℕ) (ok : Accepts s row n k) (d e : List ℕ
             subst (DenotesValue row (pieceOf s row i)) (sym (text-of i h))
             (piece-reads s row (ok .kept) bytes (pieceOf s row i) (all-inside s (kindsOf row) i blank (omega (arith, ok .pieces))) (no-stop s row (placed s (kindsOf row)) i blank (ok .unstopped) (omega (arith, ok .pieces))));
       }
+
+  -- Demand 3, of every format and row that print.
+  pub demand : (out ends : List ℕ) → out ≡ laid d (printedText s row) → ends ≡ laid e (endsFrom 0 (texts s row)) → AllBytes row → Demand3 s row n k out ends
+  demand out ends o q bytes = rw o (rw q (over-starts bytes))

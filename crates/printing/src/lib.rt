@@ -1,7 +1,9 @@
 // Measuring and printing a row under a format.
 // Ported from format_string.rs of datafusion-spark 55.2.0 (Apache-2.0; see NOTICE): Formatter::format. The original pushes the
 // text of each element to a string; here a first pass finds every refusal and the text's length, and a second writes.
-use parsing::{Cursor, Piece, Step};
+use parsing::Cursor;
+use parsing::Piece;
+use parsing::Step;
 use pieces::Size;
 use rows::RowRead;
 ghost use mathlib.Core.Path.{_≡_};
@@ -135,7 +137,10 @@ fn write_pieces<'a>(fmt: &'a [u8], row: &'a [u8], kinds: &'a [u8], out: &mut [u8
                 ends[k] = at as u32;
                 c = next;
             }
-            Step::Refused { number: _, place: _ } => {
+            Step::Refused {
+                number: _,
+                place: _,
+            } => {
                 return;
             }
             Step::End => {

@@ -101,11 +101,12 @@ loop-again c =
     let ks = a .kinds .now in
     let e = found (c .before) in
     let q : _ ≡ suc (l .c .pieces) = advanced s ks (l .c) _ _ e .pieces ∙ plus-one (l .c .pieces) in
-    let x = next-piece s ks (l .left) (l .c) (l .inv .0) (omega arith) _ _ e in
-    (reached-next s ks (l .left) (l .c) (l .inv .0) (omega arith) _ _ e,
-     c .count-piece .ensures .0 ∙ ap (counted s row _ (l .c .at)) (l .inv .1) ∙ counted-next s row (take (l .c .pieces) (placed s ks)) _
-     ∙ ap (tallyOf s row) (sym (ap (λ (k : ℕ). take k (placed s ks)) q ∙ next-taken (l .c .pieces) (placed s ks) _ _ x)),
-     subst (λ (k : ℕ). TallyBelow k (c .count-piece .result)) (sym (advanced s ks (l .c) _ _ e .pieces)) (c .count-piece .ensures .1))
+    let x = next-piece s ks (l .left) (l .c) (l .inv .0) (omega arith) _ _ e in (
+      reached-next s ks (l .left) (l .c) (l .inv .0) (omega arith) _ _ e,
+      c .count-piece .ensures .0 ∙ ap (counted s row _ (l .c .at)) (l .inv .1) ∙ counted-next s row (take (l .c .pieces) (placed s ks)) _
+          ∙ ap (tallyOf s row) (sym (ap (λ (k : ℕ). take k (placed s ks)) q ∙ next-taken (l .c .pieces) (placed s ks) _ _ x)),
+      subst (λ (k : ℕ). TallyBelow k (c .count-piece .result)) (sym (advanced s ks (l .c) _ _ e .pieces)) (c .count-piece .ensures .1),
+    )
 
 returns-3 : tie.Need-returns-3 Inv-loop μ-loop
 unfolding measuredEnd
