@@ -1,13 +1,13 @@
 -- What an accepted format and row have. Assumes nothing.
 use mathlib.Core.Path.{_≡_, refl, sym, subst}
-use mathlib.Core.Bool.{Bool, true, false}
+use mathlib.Core.Bool.{Bool, true, false, _&&_}
 use mathlib.Core.List.{List}
 use mathlib.Core.Option.{Option, none, some}
 use Prim.Native.Nat.{ℕ, _≤_}
-use lib.Dec.{ltb}
+use lib.Dec.{leb, ltb}
 use lib.ListN.{length}
-use borrow.Author.Tests.{ltb-false}
-use Rattle.writing.proofs.Choose.{by-test}
+use borrow.Author.Tests.{leb-true, ltb-false}
+use Rattle.writing.proofs.Choose.{by-test, both}
 use Rattle.utf8.specs.Utf8.{wellFormed}
 use Rattle.parsing.specs.Check.{ended}
 use Rattle.parsing.specs.Listed.{placed}
@@ -15,7 +15,7 @@ use Rattle.parsing.specs.declared.Ended.{Ended}
 use Rattle.parsing.specs.declared.Ended.the-variants.{Finished, Stopped}
 use Rattle.parsing.proofs.Cover.{count}
 use Rattle.rows.specs.Row.{kindsOf, isRow}
-use Rattle.printing.specs.Printing.{printedText, Stop, firstStop, unlessStopped, measuredEnd, measured}
+use Rattle.printing.specs.Printing.{printedText, Stop, firstStop, unlessStopped, measuredEnd, measured, within, printed}
 use Rattle.printing.specs.declared.Outcome.{Outcome}
 use Rattle.printing.specs.declared.Outcome.the-variants.{Accepted, Refused}
 
@@ -49,3 +49,29 @@ says s row =
 
 pub accepted : (s row : List ℕ) (n k : ℕ) → measured s row ≡ Accepted n k → Accepts s row n k
 accepted s row n k e = subst (Says s row) e (says s row)
+
+-- What a format and row have that are printed into so much room.
+pub record Fitted (s row : List ℕ) (room slots n k : ℕ) : Type 0 where
+  pub accepts : Accepts s row n k
+  pub bytes : n ≤ room
+  pub wide : n ≤ 4294967295
+  pub slots-enough : k ≤ slots
+
+abbrev Fits : List ℕ → List ℕ → ℕ → ℕ → Outcome → Type 0
+Fits s row room slots (Accepted n k) = Fitted s row room slots n k
+Fits s row room slots (Refused number place) = Unit {0}
+
+module _ (s row : List ℕ) (room slots : ℕ) where
+  fits : (x : Outcome) → measured s row ≡ x → Fits s row room slots (within room slots x)
+  fits (Accepted n k) e = by-test (Fits s row room slots) (leb n room && leb n 4294967295 && leb k slots) _ _ enough (λ _. tt)
+    where
+      enough : (leb n room && leb n 4294967295 && leb k slots) ≡ true → Fitted s row room slots n k
+      enough h =
+          let p = both (leb n room && leb n 4294967295) (leb k slots) h in
+          let q = both (leb n room) (leb n 4294967295) (p .0) in
+          record { accepts = accepted s row n k e; bytes = leb-true n room (q .0); wide = leb-true n 4294967295 (q .1); slots-enough = leb-true k slots (p .1) }
+  fits (Refused number place) e = tt
+
+  pub fitted : (n k : ℕ) → printed s row room slots ≡ Accepted n k → Fitted s row room slots n k
+  unfolding printed
+  fitted n k e = subst (Fits s row room slots) e (fits (measured s row) refl)

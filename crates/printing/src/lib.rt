@@ -13,7 +13,7 @@ ghost use Rattle.parsing.specs.Check.{ended};
 ghost use Rattle.rows.specs.Row.{kindsOf};
 ghost use Rattle.pieces.specs.Texts.{Ready};
 ghost use Rattle.writing.specs.Laid.{laid};
-ghost use Rattle.printing.specs.Printing.{Passed, Room, TallyBelow, texts, counted, outcomeOf, printedText, endsFrom, measuredEnd, measured, printed, written};
+ghost use Rattle.printing.specs.Printing.{Passed, Room, TallyBelow, texts, counted, outcomeOf, printedText, endsFrom, measuredEnd, measured, within, printed, written};
 ghost use Rattle.printing.specs.Demand.{Demanded};
 
 // The answer of a call: the text's length and the number of pieces, or a refusal with its number and place.
@@ -132,9 +132,10 @@ fn write_pieces<'a>(fmt: &'a [u8], row: &'a [u8], kinds: &'a [u8], out: &mut [u8
         let step = parsing::next_piece(fmt, kinds, c);
         match step {
             Step::Found { piece, next } => {
-                at = at + pieces::write_piece(&mut out[at..], fmt, row, piece);
+                let end = at + pieces::write_piece(&mut out[at..], fmt, row, piece);
                 let k = c.pieces;
-                ends[k] = at as u32;
+                ends[k] = end as u32;
+                at = end;
                 c = next;
             }
             Step::Refused {
@@ -151,6 +152,26 @@ fn write_pieces<'a>(fmt: &'a [u8], row: &'a [u8], kinds: &'a [u8], out: &mut [u8
     }
 }
 
+// 17 for a text without room, or with more pieces than ends.
+fn fit(found: Outcome, room: u64, slots: u64) -> Outcome
+    ensures { λ r. ⌜ r ≡ within room slots found ⌝ }
+{
+    let Outcome::Accepted { length, pieces } = found else {
+        return found;
+    };
+    if length <= room {
+        if length <= 4294967295 {
+            if pieces <= slots {
+                return found;
+            }
+        }
+    }
+    Outcome::Refused {
+        number: 17,
+        place: 0,
+    }
+}
+
 // Prints a row: every refusal first, and nothing is written before the last of them is excluded.
 pub fn print<'a>(fmt: &'a [u8], row: &'a [u8], out: &mut [u8], ends: &mut [u32]) -> Outcome
     ensures { λ r. ⌜ r ≡ printed (now (fmt .entry)) (now (row .entry)) (length (now (out .entry))) (length (now (ends .entry))) ⌝ }
@@ -159,27 +180,14 @@ pub fn print<'a>(fmt: &'a [u8], row: &'a [u8], out: &mut [u8], ends: &mut [u32])
     ensures { λ r. ⌜ Demanded (now (fmt .entry)) (now (row .entry)) r (now (out .exit)) (now (ends .exit)) ⌝ }
 {
     let found = measure(fmt, row);
-    let Outcome::Accepted { length, pieces } = found else {
-        return found;
+    let answer = fit(found, out.len() as u64, ends.len() as u64);
+    let Outcome::Accepted {
+        length: _,
+        pieces: _,
+    } = answer
+    else {
+        return answer;
     };
-    if (out.len() as u64) < length {
-        return Outcome::Refused {
-            number: 17,
-            place: 0,
-        };
-    }
-    if 4294967295 < length {
-        return Outcome::Refused {
-            number: 17,
-            place: 0,
-        };
-    }
-    if (ends.len() as u64) < pieces {
-        return Outcome::Refused {
-            number: 17,
-            place: 0,
-        };
-    }
     write_pieces(fmt, row, &row[6..6 + rows::count_of(row)], out, ends);
-    found
+    answer
 }

@@ -14,13 +14,7 @@ use Rattle.rows.specs.Row.{countOf, textSize, kindsOf, textOf, kindByteO
 use Rattle.rows.specs.declared.RowRead.{RowRead}
 use Rattle.rows.specs.declared.RowRead.the-variants.{Row, Broken}
 use Rattle.writing.specs.Choose.{choose}
-
--- both of two tests
-both : (a b : Bool) → (a && b) ≡ true → (a ≡ true) × (b ≡ true)
-both true b e = (refl, e)
-both false b e =
-    let z : _≡_ {A = ℕ} 0 1 = cc in
-    absurd (omega arith)
+use Rattle.writing.proofs.Choose.{both}
 
 -- one of k entries from the argument a on
 one-of : (k : ℕ) (row : List ℕ) (a : ℕ) → entriesFrom k row a ≡ true → (i : ℕ) → i < k → entryAt row (a + i) ≡ true

@@ -48,8 +48,8 @@ part-write-piece-end c = search needs
 write-piece-requires : tie.Need-write-piece-requires Inv-loop μ-loop
 write-piece-requires c κs = (fits (c .before) .ready, simp (length-take, length-drop) (omega (arith, fits (c .before) .inside)))
 
-add-at : tie.Need-add-at Inv-loop μ-loop
-add-at c = omega (arith, fits (c .before .before .before .before) .wide, c .before .before .write-piece .ensures .0)
+add-end : tie.Need-add-end Inv-loop μ-loop
+add-end c = omega (arith, fits (c .before .before .before .before) .wide, c .before .before .write-piece .ensures .0)
 
 cast-ends : tie.Need-cast-ends Inv-loop μ-loop
 cast-ends c = omega (arith, fits (c .before .before .before .before) .wide, c .before .before .write-piece .ensures .0)
@@ -119,7 +119,7 @@ write-pieces-spec =
     part-write-piece-start
     part-write-piece-end
     write-piece-requires
-    add-at
+    add-end
     cast-ends
     mul-ends
     slice-write-ends

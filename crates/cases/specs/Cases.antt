@@ -1,0 +1,78 @@
+-- 01, "Cases": "These rows are a table of the definitions, under a lone theorem".
+use Prim.Native.Nat.{ℕ, zero, suc, _+_, _-_, _/_, _%_, _^_}
+use Prim.Native.Char.{Char, code}
+use Prim.Native.String.{String, [] as empty, _∷_ as _then_}
+use mathlib.Core.Bool.{Bool, true, false, _&&_}
+use mathlib.Core.List.{List, [], _∷_, _++_}
+use lib.Dec.{eqb}
+use lib.ListN.{length}
+use Rattle.strings.specs.Scalars.{utf8Of}
+use Rattle.printing.specs.Printing.{printedText, measured}
+use Rattle.printing.specs.declared.Outcome.{Outcome}
+use Rattle.printing.specs.declared.Outcome.the-variants.{Accepted, Refused}
+
+-- the bytes of a text
+abbrev pub utf8 : String → List ℕ
+utf8 empty = []
+utf8 (c then s) = utf8Of (code c) ++ utf8 s
+
+-- k bytes of a number, the low ones first
+abbrev pub bytes : ℕ → ℕ → List ℕ
+bytes zero n = []
+bytes (suc k) n = n % 256 ∷ bytes k (n / 256)
+
+-- A row of one argument: its kind byte, its value and the text area.
+abbrev pub rowWith : ℕ → ℕ → List ℕ → List ℕ
+rowWith kind value text = bytes 2 1 ++ (bytes 4 (length text) ++ (kind ∷ (bytes 8 value ++ text)))
+
+-- A row of the table. The value is the 8 bytes that stand for it: of a text, its length times 2 ^ 32.
+pub record Case : Type 0 where
+  pub format : String
+  pub kind : ℕ
+  pub value : ℕ
+  pub area : String
+  pub text : String
+
+-- -n in 64 bits
+abbrev minus : ℕ → ℕ
+minus n = 2 ^ 64 - n
+
+-- A table is read as: format, kind byte, value, text area, the text printed.
+abbrev pub cases : List Case
+cases =
+    record { format = "%d"; kind = 3; value = 5; area = ""; text = "5" }
+    ∷ record { format = "%05d"; kind = 3; value = minus 5; area = ""; text = "-0005" }
+    ∷ record { format = "%,d"; kind = 3; value = 1234567; area = ""; text = "1,234,567" }
+    ∷ record { format = "%-(8d"; kind = 3; value = minus 5; area = ""; text = "(5     )" }
+    ∷ record { format = "%(1d"; kind = 3; value = minus 5; area = ""; text = "(5)" }
+    ∷ record { format = "%d"; kind = 4; value = 2 ^ 63; area = ""; text = "-9223372036854775808" }
+    ∷ record { format = "%#06x"; kind = 1; value = minus 1; area = ""; text = "0x00ff" }
+    ∷ record { format = "%a"; kind = 5; value = 0x3ff0_0000_0000_0000; area = ""; text = "0x1.0p0" }
+    ∷ record { format = "%010a"; kind = 5; value = 0x3ff0_0000_0000_0000; area = ""; text = "0x0001.0p0" }
+    ∷ record { format = "%a"; kind = 5; value = 0x3ff0_8000_0000_0000; area = ""; text = "0x1.08p0" }
+    ∷ record { format = "%.1a"; kind = 5; value = 0x3fff_8000_0000_0000; area = ""; text = "0x1.0p1" }
+    ∷ record { format = "%.1a"; kind = 5; value = 1; area = ""; text = "0x1.0p-1074" }
+    ∷ record { format = "%a"; kind = 5; value = 1; area = ""; text = "0x0.0000000000001p-1022" }
+    ∷ record { format = "%.1s"; kind = 7; value = 2 ^ 33; area = "é"; text = "" }
+    ∷ record { format = "%3c"; kind = 3; value = 233; area = ""; text = " é" }
+    ∷ record { format = "%.2d"; kind = 131; value = 0; area = ""; text = "nu" }
+    ∷ []
+
+abbrev same : List ℕ → List ℕ → Bool
+same [] [] = true
+same [] (y ∷ ys) = false
+same (x ∷ xs) [] = false
+same (x ∷ xs) (y ∷ ys) = eqb x y && same xs ys
+
+-- That a format of one piece prints, and what.
+abbrev pub prints : Outcome → List ℕ → List ℕ → Bool
+prints (Accepted n k) printed text = eqb k 1 && eqb n (length text) && same printed text
+prints (Refused number place) printed text = false
+
+abbrev pub holds : Case → Bool
+holds c =
+    prints (measured (utf8 (c .format)) (rowWith (c .kind) (c .value) (utf8 (c .area)))) (printedText (utf8 (c .format)) (rowWith (c .kind) (c .value) (utf8 (c .area)))) (utf8 (c .text))
+
+abbrev pub allHold : List Case → Bool
+allHold [] = true
+allHold (c ∷ cs) = holds c && allHold cs
