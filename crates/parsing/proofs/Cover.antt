@@ -53,3 +53,23 @@ empty ks = refl
 pub empty-checked : (ks : List ℕ) → (leb (length ks) 64 && allKnown ks) ≡ true → checked [] ks ≡ Accepted 0 0
 unfolding checked wellFormed wellFormedFrom ended endFrom pieceAt
 empty-checked ks e = simp e
+
+-- A format has at most 512 pieces, 13 where another begins, and no more than bytes.
+few-from : (n : ℕ) (s ks : List ℕ) (c : Cursor) → c .pieces ≤ 512 → c .at ≤ length s
+    → (length (placedFrom n s ks c) + c .pieces ≤ 512) × (length (placedFrom n s ks c) + c .at ≤ length s)
+unfolding placedFrom
+few-from zero s ks c h k = (omega arith, omega arith)
+few-from (suc n) s ks c h k = go (pieceAt s ks c) (step-in s ks c) (λ m. few-from n s ks m)
+  where
+    go : (t : Step) → StepIn (length s) c t
+        → ((m : Cursor) → m .pieces ≤ 512 → m .at ≤ length s → (length (placedFrom n s ks m) + m .pieces ≤ 512) × (length (placedFrom n s ks m) + m .at ≤ length s))
+        → (length (andRest t c (λ m. placedFrom n s ks m)) + c .pieces ≤ 512) × (length (andRest t c (λ m. placedFrom n s ks m)) + c .at ≤ length s)
+    go (Found p m) i ih =
+        let b = ih m (omega (arith, i .room, i .pieces)) (i .inside) in
+        (omega (arith, b .0, i .pieces), omega (arith, b .1, i .forward))
+    go (Refused number place) i ih = (omega arith, omega arith)
+    go End i ih = (omega arith, omega arith)
+
+pub few : (s ks : List ℕ) → (length (placed s ks) ≤ 512) × (length (placed s ks) ≤ length s)
+unfolding placed
+few s ks = let h = few-from 513 s ks start (omega arith) (omega arith) in (omega (arith, h .0), omega (arith, h .1))

@@ -1,0 +1,40 @@
+-- The C entries. 01: "The panel's host program in C calls checking, measuring and printing on numbers and byte slices; ends pass there as 4
+-- little-endian bytes each, and up to 3 bytes left over are never written."
+use Prim.Native.Nat.{ℕ, _+_, _*_, _/_, _%_}
+use mathlib.Core.List.{List, [], _∷_, _++_}
+use Rattle.parsing.specs.declared.Checked.{Checked}
+use Rattle.parsing.specs.declared.Checked.the-variants as C
+use Rattle.printing.specs.declared.Outcome.{Outcome}
+use Rattle.printing.specs.declared.Outcome.the-variants.{Accepted, Refused}
+use Rattle.panel.specs.declared.CheckAnswer.{CheckAnswer}
+use Rattle.panel.specs.declared.PrintAnswer.{PrintAnswer}
+
+-- 01, "What stops a call", "Returned": the number and the place; 0 where nothing stops it, with what is returned then.
+abbrev pub checkAnswer : Checked → CheckAnswer
+checkAnswer (C.Accepted pieces largest) = record { number = 0; place = 0; pieces = pieces; largest = largest }
+checkAnswer (C.Refused number place) = record { number = number; place = place; pieces = 0; largest = 0 }
+
+abbrev pub printAnswer : Outcome → PrintAnswer
+printAnswer (Accepted length pieces) = record { number = 0; place = 0; length = length; pieces = pieces }
+printAnswer (Refused number place) = record { number = number; place = place; length = 0; pieces = 0 }
+
+-- "4 little-endian bytes each"
+abbrev pub endBytes : ℕ → List ℕ
+endBytes n = n % 256 ∷ n / 256 % 256 ∷ n / 65536 % 256 ∷ n / 16777216 % 256 ∷ []
+
+unfoldable pub allBytes : List ℕ → List ℕ
+allBytes [] = []
+allBytes (n ∷ ns) = endBytes n ++ allBytes ns
+
+-- The ends that bytes hold, read so; "up to 3 bytes left over" hold none.
+unfoldable pub endsRead : List ℕ → List ℕ
+endsRead [] = []
+endsRead (a ∷ []) = []
+endsRead (a ∷ b ∷ []) = []
+endsRead (a ∷ b ∷ c ∷ []) = []
+endsRead (a ∷ b ∷ c ∷ d ∷ rest) = (a + 256 * b + 65536 * c + 16777216 * d) ∷ endsRead rest
+
+-- How many ends a call leaves: one for each piece, none where it was stopped.
+abbrev pub stored : Outcome → ℕ
+stored (Accepted length pieces) = pieces
+stored (Refused number place) = 0
