@@ -1,4 +1,7 @@
-// Runs the lists of vectors in its folder: each record's format and kinds are checked, and the answer is compared with the record's own.
+// Runs the lists of vectors in its folder, and compares each answer with the record's own. This file has the list of formats checked against kinds, and
+// what the lists share; prints.rt has the lists of printed answers.
+mod prints;
+
 use libc::STDOUT_FILENO;
 use parsing::Checked;
 ghost use mathlib.Core.Path.{_≡_};
@@ -166,15 +169,16 @@ fn say(text: &[u8], n: usize, rest: &[u8]) {
     io::write_all(STDOUT_FILENO, rest);
 }
 
-// Names a record that was answered otherwise, for the first 20 of them.
-fn report(number: usize, failed: usize) {
+// Names a record that was answered otherwise, for the first 20 of a list.
+fn report(name: &[u8], number: usize, failed: usize) {
     if failed < 20 {
-        say(b"check: record ", number, b" differs\n");
+        io::write_all(STDOUT_FILENO, name);
+        say(b": record ", number, b" differs\n");
     }
 }
 
 // One record more.
-fn counted(t: Tally, next: usize, same: bool) -> Tally
+fn counted(name: &[u8], t: Tally, next: usize, same: bool) -> Tally
     requires { ⌜ (t .passed + t .failed ≤ t .at) × (t .at < next) ⌝ }
     ensures { λ r. ⌜ (r .at ≡ next) × (r .passed + r .failed ≤ next) ⌝ }
 {
@@ -187,7 +191,7 @@ fn counted(t: Tally, next: usize, same: bool) -> Tally
             failed: failed,
         };
     }
-    report(passed + failed + 1, failed);
+    report(name, passed + failed + 1, failed);
     Tally {
         at: next,
         passed: passed,
@@ -205,7 +209,7 @@ fn is_answered(list: &[u8], format: usize, kinds: usize, answer: usize, expected
 }
 
 // The record at the tally's place.
-fn run_record(list: &[u8], t: Tally) -> Turn
+fn run_record(name: &[u8], list: &[u8], t: Tally) -> Turn
     requires { ⌜ (t .at < length (now list)) × (t .passed + t .failed ≤ t .at) ⌝ }
     ensures { λ r. ⌜ Onward (length (now (list .entry))) (t .at) r ⌝ }
 {
@@ -222,47 +226,102 @@ fn run_record(list: &[u8], t: Tally) -> Turn
         return Turn::Broken;
     };
     let same = is_answered(list, format, kinds, answer, checked);
-    Turn::On(counted(t, next, same))
+    Turn::On(counted(name, t, next, same))
 }
 
-// A list from its first record on, to its end or to a record that breaks the layout.
-fn run_list(list: &[u8]) -> Tally {
+// A record of either layout.
+fn run_turn(name: &[u8], list: &[u8], t: Tally, prints: bool) -> Turn
+    requires { ⌜ (t .at < length (now list)) × (t .passed + t .failed ≤ t .at) ⌝ }
+    ensures { λ r. ⌜ Onward (length (now (list .entry))) (t .at) r ⌝ }
+{
+    if prints {
+        return prints::run_record(name, list, t);
+    }
+    run_record(name, list, t)
+}
+
+// A list from its first record on, to its end or to a record that breaks the layout, which counts as failed.
+fn run_list(name: &[u8], list: &[u8], prints: bool) -> Tally
+    ensures { λ r. ⌜ r .passed + r .failed ≤ length (now (list .entry)) ⌝ }
+{
     let mut t = Tally {
         at: 0,
         passed: 0,
         failed: 0,
     };
     while t.at < list.len() {
-        let turn = run_record(list, t);
+        let turn = run_turn(name, list, t, prints);
         match turn {
             Turn::On(next) => {
                 t = next;
             }
             Turn::Broken => {
-                return t;
+                return Tally {
+                    at: t.at,
+                    passed: t.passed,
+                    failed: t.failed + 1,
+                };
             }
         }
     }
     t
 }
 
+// The line of a list, or of all.
+fn count_line(name: &[u8], passed: usize, failed: usize) {
+    io::write_all(STDOUT_FILENO, name);
+    say(b": ", passed, b" passed, ");
+    say(b"", failed, b" failed\n");
+}
+
 // What came of a list of n bytes.
-fn summary(t: Tally, n: usize) {
+fn summary(name: &[u8], t: Tally, n: usize) {
     if t.at < n {
-        say(b"check: the list is broken at byte ", t.at, b"\n");
+        io::write_all(STDOUT_FILENO, name);
+        say(b": the list is broken at byte ", t.at, b"\n");
     }
-    say(b"check: ", t.passed, b" passed, ");
-    say(b"", t.failed, b" failed\n");
+    count_line(name, t.passed, t.failed);
+}
+
+// A list that is missing, or does not fit into the array: one failure.
+fn unread(name: &[u8]) -> Tally
+    ensures { λ r. ⌜ r .passed + r .failed ≤ 262144 ⌝ }
+{
+    io::write_all(STDOUT_FILENO, name);
+    io::write_all(STDOUT_FILENO, b": the list is missing or too long\n");
+    Tally {
+        at: 0,
+        passed: 0,
+        failed: 1,
+    }
+}
+
+// The list in a file.
+fn run_file(file: &[u8], name: &[u8], prints: bool) -> Tally
+    ensures { λ r. ⌜ r .passed + r .failed ≤ 262144 ⌝ }
+{
+    let fd = os::open_read(file);
+    if fd < 0 {
+        return unread(name);
+    }
+    let mut list = [0u8; 262144];
+    let n = io::read_full(fd, &mut list);
+    libc::close(fd);
+    if n == 262144 {
+        return unread(name);
+    }
+    let t = run_list(name, &list[..n], prints);
+    summary(name, t, n);
+    t
 }
 
 fn main() {
-    let fd = os::open_read(b"check.vec");
-    if fd < 0 {
-        os::fail(b"check.vec");
-        return;
-    }
-    let mut list = [0u8; 131072];
-    let n = io::read_full(fd, &mut list);
-    libc::close(fd);
-    summary(run_list(&list[..n]), n);
+    let a = run_file(b"check.vec", b"check", false);
+    let b = run_file(b"print.vec", b"print", true);
+    let c = run_file(b"original.vec", b"original", true);
+    count_line(
+        b"all",
+        a.passed + b.passed + c.passed,
+        a.failed + b.failed + c.failed,
+    );
 }

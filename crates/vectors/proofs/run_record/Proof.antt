@@ -52,7 +52,7 @@ is-answered-requires c κs =
 -- The record ends behind the place where it begins, and in the list.
 behind :
     (c : tie.After-known-told2) →
-    let start = c .before .before .before .before .before .before .before .before .before .args in
+    let start = c .before .before .before .before .before .before .before .before .before .before .args in
     let next = c .before .checked .given .0 .1 .0 in
     (start .t .at < next) × (next ≤ length (start .list .now))
 behind c =
@@ -63,7 +63,7 @@ behind c =
     let g = c .before .checked .given .0 in
     let answer = f .before .format .given .0 .1 .1 .0 in
     let k =
-    answer-in (f .before .before .before .before .before .args .list .now) answer (g .0) (g .1 .0) (simp (c .before .checked .given .1) at d) in
+    answer-in (f .before .before .before .before .before .before .args .list .now) answer (g .0) (g .1 .0) (simp (c .before .checked .given .1) at d) in
     (omega (arith, h, k), k .1)
 
 counted-requires : tie.Need-counted-requires

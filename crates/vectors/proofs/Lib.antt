@@ -1,0 +1,2 @@
+mod Compared
+mod Claims

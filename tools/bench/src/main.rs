@@ -1,0 +1,208 @@
+//! Times this library, the original, snprintf and Java on the same rows, and prints tables in Markdown.
+//!
+//! Arguments: FOLDER (of Bench.class; files of callgrind go there), or `calls INDEX COUNT` to make calls on one row and nothing else.
+
+mod others;
+mod panel;
+mod rows;
+mod timing;
+
+use std::path::Path;
+use std::process::ExitCode;
+use std::{env, fs, thread};
+
+use original::Formatter;
+
+use others::Java;
+use panel::{Panel, Snprintf};
+use rows::{Call, Row, SHEET_LINE, Series};
+use timing::Calls;
+
+fn main() -> ExitCode {
+    let arguments: Vec<String> = env::args().skip(1).collect();
+    match arguments.iter().map(String::as_str).collect::<Vec<_>>()[..] {
+        ["calls", index, count] => {
+            let (Ok(index), Ok(count)) = (index.parse(), count.parse()) else { return usage() };
+            let Some(row) = all_rows().into_iter().nth(index) else { return usage() };
+            std::hint::black_box(Panel::new(&row).run(count));
+        }
+        [folder] => tables(Path::new(folder)),
+        _ => return usage(),
+    }
+    ExitCode::SUCCESS
+}
+
+fn usage() -> ExitCode {
+    eprintln!("arguments: FOLDER, or calls INDEX COUNT");
+    ExitCode::from(2)
+}
+
+/// Every row, in the order of the tables; `calls` and the files of callgrind count from 0 in it.
+fn all_rows() -> Vec<Row> {
+    let rising = rows::series().into_iter().flat_map(|series| series.rows.into_iter().map(|(_, row)| row));
+    rows::compared().into_iter().chain(rising).collect()
+}
+
+fn tables(folder: &Path) {
+    let load = fs::read_to_string("/proc/loadavg").unwrap_or_default();
+    let compared = rows::compared();
+    let measured: Vec<Measured> = compared.iter().map(|row| measure(folder, row)).collect();
+    println!("{}\n", machine(&load, &measured));
+    println!("Nanoseconds for a call; instructions for a call of this library.\n");
+    println!(
+        "| Row | This library | Original, parse and format | Original, format only | snprintf | Java | Original / this | snprintf / this | Instructions |"
+    );
+    println!("|---|---:|---:|---:|---:|---:|---:|---:|---:|");
+    for (index, (row, m)) in compared.iter().zip(&measured).enumerate() {
+        let name = &row.name;
+        let star = if row.in_c.as_ref().is_some_and(|c| !c.same) { " *" } else { "" };
+        println!(
+            "| {name} | {} | {} | {} | {}{star} | {} | {} | {} | {} |",
+            time(Some(m.panel)),
+            time(m.parse_and_format),
+            time(m.format_only),
+            time(m.snprintf),
+            time(m.java.as_ref().map(|java| java.ns)),
+            ratio(m.parse_and_format, m.panel),
+            ratio(m.snprintf, m.panel),
+            count(others::instructions(folder, index, row.call)),
+        );
+    }
+    println!();
+    notes(&compared);
+    println!("\nGrowth with size, this library alone.\n");
+    println!("| Size in | Size | Nanoseconds | Nanoseconds / size | Instructions | Instructions / size |");
+    println!("|---|---:|---:|---:|---:|---:|");
+    let mut index = compared.len();
+    for series in rows::series() {
+        growth(folder, &series, &mut index);
+    }
+}
+
+struct Measured {
+    panel: f64,
+    parse_and_format: Option<f64>,
+    format_only: Option<f64>,
+    snprintf: Option<f64>,
+    java: Option<Java>,
+}
+
+/// All times of one row, after a look at the texts: the original's and Java's must be this library's, snprintf's too where the row says so.
+fn measure(folder: &Path, row: &Row) -> Measured {
+    let mut panel = Panel::new(row);
+    let Some(in_c) = &row.in_c else {
+        let least = timing::least(&mut [Box::new(|calls| panel.run(calls)) as Calls]);
+        return Measured { panel: least[0], parse_and_format: None, format_only: None, snprintf: None, java: None };
+    };
+    let (types, values) = (row.data_types(), row.scalars());
+    let formatter = Formatter::parse(&row.format, &types).expect("accepted");
+    let text = formatter.format(&values).expect("printed");
+    let mut snprintf = Snprintf::new(row, in_c);
+    panel.run(1);
+    assert_eq!(panel.text(text.len()), text.as_bytes(), "{}: this library and the original differ", row.name);
+    snprintf.run(1);
+    assert_eq!(snprintf.text() == text.as_bytes(), in_c.same, "{}: snprintf says {:?}", row.name, snprintf.text());
+    let java = others::java(folder, row);
+    if let Some(java) = &java {
+        assert_eq!(java.text, text, "{}: Java and the original differ", row.name);
+    }
+    let least = timing::least(&mut [
+        Box::new(|calls| panel.run(calls)) as Calls,
+        Box::new(|calls| others::parse_and_format(&row.format, &types, &values, calls)),
+        Box::new(|calls| others::format_only(&formatter, &values, calls)),
+        Box::new(|calls| snprintf.run(calls)),
+    ]);
+    Measured {
+        panel: least[0],
+        parse_and_format: Some(least[1]),
+        format_only: Some(least[2]),
+        snprintf: Some(least[3]),
+        java,
+    }
+}
+
+fn growth(folder: &Path, series: &Series, index: &mut usize) {
+    let mut panels: Vec<Panel> = series.rows.iter().map(|(_, row)| Panel::new(row)).collect();
+    let mut subjects: Vec<Calls> = panels.iter_mut().map(|panel| Box::new(|calls| panel.run(calls)) as Calls).collect();
+    let least = timing::least(&mut subjects);
+    for ((size, row), ns) in series.rows.iter().zip(least) {
+        let instructions = others::instructions(folder, *index, row.call);
+        *index += 1;
+        // Measuring must not grow with the width, so there is nothing to divide.
+        let each = |total: f64| match row.call {
+            Call::Print => format!("{:.2}", total / *size as f64),
+            Call::Measure => "-".to_owned(),
+        };
+        println!(
+            "| {} | {} | {} | {} | {} | {} |",
+            series.name,
+            grouped(*size),
+            time(Some(ns)),
+            each(ns),
+            count(instructions),
+            instructions.map_or("-".to_owned(), |n| each(n as f64)),
+        );
+    }
+}
+
+/// The values of the rows, and where snprintf's text is another.
+fn notes(compared: &[Row]) {
+    println!("Values:\n");
+    for row in compared {
+        let format = if row.name == SHEET_LINE { format!(", `{}`", row.format) } else { "".to_owned() };
+        println!("- {}{format}: {}", row.name, row.show());
+    }
+    println!("\n\\* snprintf's text is another:\n");
+    for row in compared {
+        let Some(in_c) = row.in_c.as_ref().filter(|in_c| !in_c.same) else { continue };
+        let mut snprintf = Snprintf::new(row, in_c);
+        snprintf.run(1);
+        println!("- {}: `{}` prints `{}`", row.name, in_c.format, String::from_utf8_lossy(snprintf.text()));
+    }
+}
+
+/// The date, the kind of machine and the tools.
+fn machine(load: &str, measured: &[Measured]) -> String {
+    let date = env::var("BENCH_DATE").unwrap_or_else(|_| "no date".to_owned());
+    let cores = thread::available_parallelism().map_or(0, |n| n.get());
+    let cpu = fs::read_to_string("/proc/cpuinfo").unwrap_or_default();
+    let model = cpu.lines().find_map(|line| line.strip_prefix("model name")?.split_once(": ")).map_or("CPU", |p| p.1);
+    let load = load.split(' ').next().unwrap_or_default();
+    let java = measured.iter().find_map(|m| m.java.as_ref()).map_or("none", |java| &java.version);
+    format!(
+        "{date}; {cores} cores, {model}; load {load} at the start. gcc {}, glibc {}, Java {java}.",
+        panel::compiler(),
+        panel::c_library()
+    )
+}
+
+fn time(ns: Option<f64>) -> String {
+    match ns {
+        None => "-".to_owned(),
+        Some(ns) if ns < 100.0 => format!("{ns:.1}"),
+        Some(ns) => grouped(ns.round() as u64),
+    }
+}
+
+fn ratio(other: Option<f64>, this: f64) -> String {
+    other.map_or("-".to_owned(), |other| match other / this {
+        r if r < 100.0 => format!("{r:.2}"),
+        r => grouped(r.round() as u64),
+    })
+}
+
+fn count(n: Option<u64>) -> String {
+    n.map_or("-".to_owned(), grouped)
+}
+
+fn grouped(n: u64) -> String {
+    let digits = n.to_string();
+    let mut text = String::new();
+    for (i, digit) in digits.chars().enumerate() {
+        if i > 0 && (digits.len() - i).is_multiple_of(3) {
+            text.push(',');
+        }
+        text.push(digit);
+    }
+    text
+}

@@ -1,0 +1,136 @@
+//! The calls made in C (calls.c): this library and snprintf.
+
+use std::ffi::{CStr, CString, c_char, c_int};
+
+use crate::rows::{Call, InC, Row};
+
+unsafe extern "C" {
+    fn bench_print(
+        fmt: *const u8,
+        fmt_len: usize,
+        row: *const u8,
+        row_len: usize,
+        out: *mut u8,
+        out_len: usize,
+        ends: *mut u8,
+        ends_len: usize,
+        calls: u64,
+    ) -> u64;
+    fn bench_measure(fmt: *const u8, fmt_len: usize, row: *const u8, row_len: usize, calls: u64) -> u64;
+    fn bench_snprintf(
+        shape: c_int,
+        fmt: *const c_char,
+        n: *const c_int,
+        f: f64,
+        s: *const c_char,
+        out: *mut c_char,
+        out_len: usize,
+        calls: u64,
+    ) -> u64;
+    fn bench_compiler() -> *const c_char;
+    fn bench_c_library() -> *const c_char;
+}
+
+/// Bytes lent for the longest text of any row.
+const ROOM: usize = 131_072;
+const ENDS: usize = 512;
+
+/// This library on one row.
+pub struct Panel {
+    call: Call,
+    format: Vec<u8>,
+    row: Vec<u8>,
+    out: Vec<u8>,
+    ends: Vec<u8>,
+}
+
+impl Panel {
+    pub fn new(row: &Row) -> Panel {
+        Panel {
+            call: row.call,
+            format: row.format.clone().into_bytes(),
+            row: row.pack(),
+            out: vec![0; ROOM],
+            ends: vec![0; 4 * ENDS],
+        }
+    }
+
+    pub fn run(&mut self, calls: u64) -> u64 {
+        let (format, row) = (&self.format, &self.row);
+        match self.call {
+            // Each pointer and length come from one vector that lives through the call.
+            Call::Print => unsafe {
+                bench_print(
+                    format.as_ptr(),
+                    format.len(),
+                    row.as_ptr(),
+                    row.len(),
+                    self.out.as_mut_ptr(),
+                    self.out.len(),
+                    self.ends.as_mut_ptr(),
+                    self.ends.len(),
+                    calls,
+                )
+            },
+            Call::Measure => unsafe { bench_measure(format.as_ptr(), format.len(), row.as_ptr(), row.len(), calls) },
+        }
+    }
+
+    /// The text left by the calls before, of the given length; the byte behind it must be untouched.
+    pub fn text(&self, length: usize) -> &[u8] {
+        assert_eq!(self.out[length], 0, "the text is longer");
+        &self.out[..length]
+    }
+}
+
+/// snprintf on one row.
+pub struct Snprintf {
+    shape: c_int,
+    format: CString,
+    integers: Vec<c_int>,
+    float: f64,
+    text: CString,
+    out: Vec<u8>,
+}
+
+impl Snprintf {
+    pub fn new(row: &Row, in_c: &InC) -> Snprintf {
+        Snprintf {
+            shape: in_c.shape as c_int,
+            format: CString::new(in_c.format.clone()).expect("no byte 0"),
+            integers: row.integers(),
+            float: row.float(),
+            text: CString::new(row.text()).expect("no byte 0"),
+            out: vec![0; ROOM],
+        }
+    }
+
+    pub fn run(&mut self, calls: u64) -> u64 {
+        // The shape says how many integers are read; rows.rs gives as many. Text and format end with byte 0.
+        unsafe {
+            bench_snprintf(
+                self.shape,
+                self.format.as_ptr(),
+                self.integers.as_ptr(),
+                self.float,
+                self.text.as_ptr(),
+                self.out.as_mut_ptr().cast(),
+                self.out.len(),
+                calls,
+            )
+        }
+    }
+
+    pub fn text(&self) -> &[u8] {
+        CStr::from_bytes_until_nul(&self.out).expect("ends with byte 0").to_bytes()
+    }
+}
+
+pub fn compiler() -> &'static str {
+    // Both functions return texts that live as long as the program.
+    unsafe { CStr::from_ptr(bench_compiler()) }.to_str().expect("ASCII")
+}
+
+pub fn c_library() -> &'static str {
+    unsafe { CStr::from_ptr(bench_c_library()) }.to_str().expect("ASCII")
+}
