@@ -1,7 +1,7 @@
 // UTF-8: one test of well-formedness, for formats and for the texts of a row.
 ghost use mathlib.Core.Path.{_≡_};
-ghost use Prim.Native.Nat.{_≤_, _<_};
-ghost use Rattle.utf8.specs.Utf8.{leadOf, wellFormed};
+ghost use Prim.Native.Nat.{_≤_, _<_, max};
+ghost use Rattle.utf8.specs.Utf8.{leadOf, wellFormed, largestOf};
 
 // What follows a first byte: how many bytes, and the range of the next one.
 pub enum Lead {
@@ -69,8 +69,30 @@ fn lead_of_four(b: u8) -> Lead
     follow(3, 0x80, 0xbf)
 }
 
-// Whether s is well-formed UTF-8: one pass, each byte looked at once.
-pub fn is_well_formed(s: &[u8]) -> bool
+fn larger(a: u8, b: u8) -> u8
+    ensures { λ r. ⌜ r ≡ max a b ⌝ }
+{
+    if a < b {
+        return b;
+    }
+    a
+}
+
+// The largest byte. The loop has no way out, so that it can be compiled to operations on blocks.
+fn largest(s: &[u8]) -> u8
+    ensures { λ r. ⌜ r ≡ largestOf (now (s .entry)) ⌝ }
+{
+    let mut top: u8 = 0;
+    let mut i = 0;
+    while i < s.len() {
+        top = larger(top, s[i]);
+        i = i + 1;
+    }
+    top
+}
+
+// Whether s is well-formed UTF-8, byte by byte.
+fn follows_table(s: &[u8]) -> bool
     ensures { λ r. ⌜ r ≡ wellFormed (now (s .entry)) ⌝ }
 {
     let mut need: u8 = 0;
@@ -105,4 +127,14 @@ pub fn is_well_formed(s: &[u8]) -> bool
         i = i + 1;
     }
     need == 0
+}
+
+// Whether s is well-formed UTF-8. Most texts are ASCII, which one quick pass shows.
+pub fn is_well_formed(s: &[u8]) -> bool
+    ensures { λ r. ⌜ r ≡ wellFormed (now (s .entry)) ⌝ }
+{
+    if largest(s) < 0x80 {
+        return true;
+    }
+    follows_table(s)
 }
