@@ -12,9 +12,8 @@ fi
 made=target/panel
 mkdir -p "$made"
 
-for name in example guard; do
-    gcc -O2 -Wall -Wextra -Werror panel/$name.c "$lib" -o $made/$name
-done
+gcc -O2 -Wall -Wextra -Werror panel/example.c "$lib" -o $made/example
+gcc -O2 -Wall -Wextra -Werror -Ipanel panel/guard/*.c "$lib" -o $made/guard
 
 # The header from C++: names must link as C's.
 cat > $made/header.cc <<'END'

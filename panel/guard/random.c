@@ -1,0 +1,240 @@
+#include <stdio.h>
+#include <string.h>
+
+#include "cases.h"
+#include "count.h"
+#include "rows.h"
+#include "runs.h"
+
+/* ---- Drawing ---- */
+
+static uint64_t state;
+
+static uint64_t draw(void)
+{
+    uint64_t z = state += 0x9E3779B97F4A7C15;
+    z = (z ^ z >> 30) * 0xBF58476D1CE4E5B9;
+    z = (z ^ z >> 27) * 0x94D049BB133111EB;
+    return z ^ z >> 31;
+}
+
+static size_t below(size_t n)
+{
+    return (size_t)(draw() % n);
+}
+
+static int one_in(size_t n)
+{
+    return below(n) == 0;
+}
+
+/* ---- Formats ---- */
+
+/* A writer that drops what does not fit. */
+struct buffer {
+    uint8_t *at;
+    size_t length, most;
+};
+
+static void put(struct buffer *b, const char *text)
+{
+    size_t n = strlen(text);
+    if (n <= b->most - b->length) {
+        memcpy(b->at + b->length, text, n);
+        b->length += n;
+    }
+}
+
+static void put_count(struct buffer *b, size_t n)
+{
+    char digits[24];
+    snprintf(digits, sizeof digits, "%zu", n);
+    put(b, digits);
+}
+
+static void put_letter(struct buffer *b, uint8_t kind)
+{
+    static const char *const integer[] = { "d", "d", "x", "X", "o", "s", "S", "c", "C" };
+    static const char *const any[] = { "b", "h", "H", "e", "E", "f", "g", "G", "a", "A", "tH", "Tq", "t", "q", "$", "%", "n", "\303\251" };
+    if (one_in(25))
+        put(b, any[below(sizeof any / sizeof any[0])]);
+    else if ((kind & 127) <= 4)
+        put(b, integer[below(sizeof integer / sizeof integer[0])]);
+    else
+        put(b, kind == 5 ? (one_in(2) ? "a" : "A") : (kind & 127) == 6 ? (one_in(2) ? "b" : "B") : one_in(2) ? "s" : "S");
+}
+
+/* Flags, width and precision, some or none of them. */
+static void put_shape(struct buffer *b)
+{
+    static const char *const flags[] = { "#", "0", "-", " ", "+", ",", "(" };
+    int flags_put = 0;
+    while (one_in(3))
+        put(b, flags[flags_put++ < 1 || one_in(4) ? below(7) : 0]);
+    if (one_in(3))
+        put_count(b, one_in(300) ? 2147483640 + below(16) : 1 + below(one_in(10) ? 2000 : 20));
+    if (one_in(4)) {
+        put(b, one_in(5) ? ".0" : ".");
+        if (!one_in(10))
+            put_count(b, one_in(300) ? 2147483640 + below(16) : below(one_in(10) ? 200 : 18));
+    }
+}
+
+static size_t random_format(uint8_t *format, const struct row *row)
+{
+    static const char *const plain[] = { "gate ", "x", " ", "\303\251", "\346\227\245\346\234\254", "\360\237\214\212", "%%", "%n", "12$", "\n" };
+    struct buffer b = { format, 0, MOST_FORMAT };
+    size_t pieces = one_in(50) ? 400 + below(200) : below(12), count = 0, last = 0;
+    for (size_t i = 0; i < pieces; i++) {
+        if (row->count == 0 || one_in(3)) {
+            put(&b, plain[below(sizeof plain / sizeof plain[0])]);
+            continue;
+        }
+        put(&b, "%");
+        if (last > 0 && (one_in(4) || count == row->count)) {
+            put(&b, "<");
+        } else if (one_in(4) || count == row->count) {
+            last = 1 + below(row->count + one_in(40));
+            put_count(&b, last);
+            put(&b, "$");
+        } else {
+            last = ++count;
+        }
+        put_shape(&b);
+        put_letter(&b, last <= row->count ? row->kind[last - 1] : 3);
+    }
+    return b.length;
+}
+
+/* ---- Rows ---- */
+
+static uint64_t random_integer(int bits)
+{
+    uint64_t value = draw() >> below(64);
+    if (one_in(2))
+        value = 0 - value;
+    if (one_in(8))
+        value = one_in(2) ? UINT64_C(1) << 63 >> below(64) : 0x30 + below(0x120000);
+    /* Sign-extended from the kind's width. */
+    uint64_t sign = UINT64_C(1) << (bits - 1), rest = value & (sign - 1);
+    return value & sign ? rest | (0 - sign) : rest;
+}
+
+static uint64_t random_float(void)
+{
+    static const uint64_t special[] = { 0, 1, 0x000FFFFFFFFFFFFF, 0x0010000000000000, 0x3FF0000000000000, 0x3FFFFFFFFFFFFFFF,
+                                        0x7FEFFFFFFFFFFFFF, 0x7FF0000000000000, 0x7FF8000000000000 };
+    uint64_t bits = one_in(3) ? special[below(9)] : draw();
+    if (one_in(4))
+        bits &= ~(UINT64_C(0xFFFFFFFFFFFF) >> below(40));
+    if (one_in(6))
+        bits &= UINT64_C(0x800FFFFFFFFFFFFF);
+    return one_in(3) ? bits ^ UINT64_C(1) << 63 : bits;
+}
+
+/* Puts a text into the area. */
+static uint64_t random_text(struct buffer *area)
+{
+    static const char *const parts[] = { "", "a", "north weir", "\303\251", "Vejle \303\245", "\346\227\245\346\234\254\350\252\236",
+                                         "\360\237\214\212\360\237\214\212", "zZ09 %d" };
+    size_t start = area->length;
+    while (one_in(2) || (one_in(3) && start < 100))
+        put(area, parts[below(sizeof parts / sizeof parts[0])]);
+    return (uint64_t)(area->length - start) << 32 | start;
+}
+
+static uint64_t random_value(uint8_t kind, struct buffer *area)
+{
+    if (kind <= 4)
+        return random_integer(4 << kind);
+    if (kind == 5)
+        return random_float();
+    if (kind == 6)
+        return below(2);
+    return random_text(area);
+}
+
+static void random_row(struct row *row)
+{
+    struct buffer area = { row->area, 0, 4096 };
+    row->count = one_in(20) ? below(MOST_KINDS + 1) : below(8);
+    for (size_t i = 0; i < row->count; i++) {
+        uint8_t kind = (uint8_t)(1 + below(7));
+        row->kind[i] = kind;
+        row->value[i] = random_value(kind, &area);
+        if (kind != 5 && kind != 7 && one_in(8)) {
+            row->kind[i] |= 128;
+            row->value[i] = 0;
+        }
+    }
+    if (one_in(10))
+        put(&area, "\377\300 named by no value");
+    row->area_length = area.length;
+}
+
+/* ---- Damage, and the run ---- */
+
+/* Changes, removes or inserts a few bytes. Returns the new length, at most `most`. */
+static size_t damage(uint8_t *at, size_t length, size_t most)
+{
+    static const uint8_t telling[] = { '%', '$', '<', '-', '0', '+', ' ', '.', '9', 't', 'd', 'a', 0x80, 0xC3, 0xFF, 0, 1, 128 };
+    for (size_t i = 1 + below(3); i > 0; i--) {
+        uint8_t byte = one_in(2) ? telling[below(sizeof telling)] : (uint8_t)draw();
+        size_t place = below(length + 1);
+        switch (below(4)) {
+        case 0:
+            if (length < most) {
+                memmove(at + place + 1, at + place, length - place);
+                at[place] = byte;
+                length++;
+            }
+            break;
+        case 1:
+            if (place < length) {
+                memmove(at + place, at + place + 1, length - place - 1);
+                length--;
+            }
+            break;
+        case 2:
+            if (one_in(4)) {
+                length = place;
+                break;
+            }
+            /* fall through */
+        default:
+            if (place < length)
+                at[place] = byte;
+        }
+    }
+    return length;
+}
+
+void try_random(uint64_t seed, size_t rounds)
+{
+    static struct row row;
+    static uint8_t format[MOST_FORMAT], packed[MOST_ROW], kinds[MOST_KINDS + 8];
+    state = seed;
+    for (size_t i = 0; i < rounds; i++) {
+        random_row(&row);
+        size_t length = random_format(format, &row);
+        size_t row_length = pack(&row, packed);
+        if (i % 4 == 1 || i % 16 == 3)
+            length = damage(format, length, sizeof format);
+        if (i % 4 == 2 || i % 16 == 3)
+            row_length = damage(packed, row_length, sizeof packed);
+        if (i % 64 == 7)
+            for (size_t k = length = below(40); k > 0; k--)
+                format[k - 1] = (uint8_t)draw();
+        try_case(format, length, packed, row_length);
+
+        size_t count = below(9);
+        for (size_t k = 0; k < count; k++)
+            kinds[k] = one_in(20) ? (uint8_t)draw() : (uint8_t)(1 + below(7));
+        set_case(format, length, kinds, count);
+        struct panel_checked at_end, at_start;
+        int good = try_check(format, length, kinds, count, AT_END, &at_end);
+        verdict(good, "check against other kinds");
+        good = good && try_check(format, length, kinds, count, AT_START, &at_start);
+        verdict(good && is_check(at_start, at_end.number, at_end.place, at_end.pieces, at_end.largest), "check against other kinds");
+    }
+}
