@@ -8,8 +8,8 @@ import java.util.Locale;
  */
 public final class Bench {
     private static final long WARM_UP = 2_000_000_000L;
-    private static final long REPETITION = 10_000_000L;
-    private static final int REPETITIONS = 60;
+    private static final long REPETITION = 500_000L;
+    private static final int REPETITIONS = 200;
 
     private static long sum;
 

@@ -3,8 +3,9 @@
 use std::hint::black_box;
 use std::time::{Duration, Instant};
 
-const REPETITION: Duration = Duration::from_millis(10);
-const REPETITIONS: u32 = 60;
+/// Short, so that some repetitions fall between disturbances.
+const REPETITION: Duration = Duration::from_micros(500);
+const REPETITIONS: u32 = 200;
 
 /// Makes the given number of calls and returns a sum over their answers.
 pub type Calls<'a> = Box<dyn FnMut(u64) -> u64 + 'a>;
