@@ -7,7 +7,7 @@ use words::Word;
 ghost use mathlib.Core.Path.{_≡_};
 ghost use Prim.Native.Nat.{_^_, _≤_, _<_};
 ghost use lib.ListN.{length};
-ghost use Rattle.writing.specs.Laid.{laid};
+ghost use Rattle.writing.specs.Laid.{laid, laidIfRoom};
 ghost use Rattle.bodies.specs.Bodies.{Fits, bodyText, planText};
 
 // What stands in a frame: digits of a number in a base; decimal digits with commas; a float in parts; a word, or an integer's digits under %s, cut to a
@@ -79,16 +79,8 @@ fn measured(text: &[u8], body: Body) -> u64
     }
 }
 
-// The length of a body; nothing is written.
-pub fn body_len(text: &[u8], body: Body) -> u64
-    requires { ⌜ Fits (now text) body ⌝ }
-    ensures { λ r. ⌜ r ≡ length (bodyText (now (text .entry)) body) ⌝ }
-{
-    measured(text, body)
-}
-
 // Writes a body. Answers its length.
-pub fn write_body(out: &mut [u8], text: &[u8], body: Body) -> usize
+fn write_body(out: &mut [u8], text: &[u8], body: Body) -> usize
     requires { ⌜ (Fits (now text) body) × (length (bodyText (now text) body) ≤ length (now out)) ⌝ }
     ensures { λ r. ⌜ (r ≡ length (bodyText (now (text .entry)) body)) × (now (out .exit) ≡ laid (now (out .entry)) (bodyText (now (text .entry)) body)) ⌝ }
 {
@@ -114,7 +106,7 @@ pub fn write_body(out: &mut [u8], text: &[u8], body: Body) -> usize
 }
 
 // The length of a body in its frame, far below what 64 bits hold; nothing is written.
-pub fn plan_len(text: &[u8], plan: Plan) -> u64
+fn plan_len(text: &[u8], plan: Plan) -> u64
     requires { ⌜ Fits (now text) (plan .body) ⌝ }
     ensures { λ r. ⌜ (r ≡ length (planText (now (text .entry)) plan)) × (r < 2 ^ 42) ⌝ }
 {
@@ -124,7 +116,7 @@ pub fn plan_len(text: &[u8], plan: Plan) -> u64
 }
 
 // Writes a body in its frame. Answers the length.
-pub fn write_plan(out: &mut [u8], text: &[u8], plan: Plan) -> usize
+fn write_plan(out: &mut [u8], text: &[u8], plan: Plan) -> usize
     requires { ⌜ (Fits (now text) (plan .body)) × (length (planText (now text) plan) ≤ length (now out)) ⌝ }
     ensures { λ r. ⌜ (r ≡ length (planText (now (text .entry)) plan)) × (now (out .exit) ≡ laid (now (out .entry)) (planText (now (text .entry)) plan)) ⌝ }
 {
@@ -133,4 +125,16 @@ pub fn write_plan(out: &mut [u8], text: &[u8], plan: Plan) -> usize
     let a = layout::write_head(out, frame);
     let b = a + write_body(&mut out[a..], text, body);
     b + layout::write_tail(&mut out[b..], frame)
+}
+
+// Writes a body in its frame where there is room for it. Answers the length, far below what 64 bits hold.
+pub fn put_plan(out: &mut [u8], text: &[u8], plan: Plan) -> u64
+    requires { ⌜ Fits (now text) (plan .body) ⌝ }
+    ensures { λ r. ⌜ (r ≡ length (planText (now (text .entry)) plan)) × (r < 2 ^ 42) × (now (out .exit) ≡ laidIfRoom (now (out .entry)) (planText (now (text .entry)) plan)) ⌝ }
+{
+    let n = plan_len(text, plan);
+    if n <= out.len() as u64 {
+        write_plan(out, text, plan);
+    }
+    n
 }

@@ -169,6 +169,23 @@ places-more b n h m =
     let q : n / b ≤ f = quotient-le b n f h m (omega arith) in
     ap (λ (z : ℕ). placesWithin z b n) e ∙ within-more f b n m ∙ ap suc (within-enough f (n / b) b (n / b) h q (le-refl (n / b)))
 
+-- four places at once
+pub places-four : (n : ℕ) → 10000 ≤ n → places 10 n ≡ 4 + places 10 (n / 10000)
+places-four n h =
+    let two : n / 10 / 10 ≡ n / 100 = div-div-eq-div-mul n 10 10 in
+    let three : n / 100 / 10 ≡ n / 1000 = div-div-eq-div-mul n 100 10 in
+    let four : n / 1000 / 10 ≡ n / 10000 = div-div-eq-div-mul n 1000 10 in
+    omega (
+      arith,
+      places-more 10 n (omega arith) (omega arith),
+      places-more 10 (n / 10) (omega arith) (omega arith),
+      ap (places 10) two,
+      places-more 10 (n / 100) (omega arith) (omega arith),
+      ap (places 10) three,
+      places-more 10 (n / 1000) (omega arith) (omega arith),
+      ap (places 10) four,
+    )
+
 pub places-pos : (b n : ℕ) → 2 ≤ b → 1 ≤ places b n
 places-pos b n h =
     elim (decLt n b) [ yes s ↦ omega (arith, places-small b n s) | no s ↦ omega (arith, places-more b n h (omega arith)) ]

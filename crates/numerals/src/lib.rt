@@ -25,17 +25,34 @@ pub fn digit_letter(digit: u64, upper: bool) -> u8
     (87 + digit) as u8
 }
 
-// How many decimal digits x has: one for 0.
+// How many decimal digits a number of at most four has: one for 0.
+fn short_len(x: u64) -> usize
+    requires { ⌜ x < 10000 ⌝ }
+    ensures { λ r. ⌜ r ≡ places 10 x ⌝ }
+{
+    if x < 10 {
+        return 1;
+    }
+    if x < 100 {
+        return 2;
+    }
+    if x < 1000 {
+        return 3;
+    }
+    4
+}
+
+// How many decimal digits x has, four in a turn.
 pub fn decimal_len(x: u64) -> usize
     ensures { λ r. ⌜ r ≡ places 10 x ⌝ }
 {
     let mut v = x;
-    let mut n = 1;
-    while 10 <= v {
-        v = v / 10;
-        n = n + 1;
+    let mut n = 0;
+    while 10000 <= v {
+        v = v / 10000;
+        n = n + 4;
     }
-    n
+    n + short_len(v)
 }
 
 // How many digits x has in base 2 ^ shift, from its highest set bit: one for 0. Octal is shift 3, hexadecimal shift 4.
@@ -51,7 +68,7 @@ pub fn power_len(x: u64, shift: u32) -> u32
 }
 
 // Writes the n lowest digits of x in the base, leading zeros included. Answers n.
-pub fn write_digits(out: &mut [u8], x: u64, base: u64, n: usize, upper: bool) -> usize
+fn write_places(out: &mut [u8], x: u64, base: u64, n: usize, upper: bool) -> usize
     requires { ⌜ (1 ≤ base) × (base ≤ 16) × (n ≤ length (now out)) ⌝ }
     ensures { λ r. ⌜ (r ≡ n) × (now (out .exit) ≡ laid (now (out .entry)) (lettersOf upper (digitsIn base n x))) ⌝ }
 {
@@ -63,6 +80,23 @@ pub fn write_digits(out: &mut [u8], x: u64, base: u64, n: usize, upper: bool) ->
         v = v / base;
     }
     n
+}
+
+// The same. Where the base is known at a call, that call is compiled without division.
+pub fn write_digits(out: &mut [u8], x: u64, base: u64, n: usize, upper: bool) -> usize
+    requires { ⌜ (1 ≤ base) × (base ≤ 16) × (n ≤ length (now out)) ⌝ }
+    ensures { λ r. ⌜ (r ≡ n) × (now (out .exit) ≡ laid (now (out .entry)) (lettersOf upper (digitsIn base n x))) ⌝ }
+{
+    if base == 10 {
+        return write_places(out, x, 10, n, upper);
+    }
+    if base == 16 {
+        return write_places(out, x, 16, n, upper);
+    }
+    if base == 8 {
+        return write_places(out, x, 8, n, upper);
+    }
+    write_places(out, x, base, n, upper)
 }
 
 // The length of x in decimal with commas, from its number of digits.

@@ -69,6 +69,14 @@ abbrev pub sameArgument : List ℕ → List ℕ → Cursor → Step
 sameArgument s ks c =
     choose (eqb (c .last) 0) (λ _. Refused 4 (c .at)) (λ _. elementOf s ks c (c .at + 2) (c .last) (c .count) (c .last))
 
+-- Either way an element names its argument, the cursor standing at its `%`.
+abbrev pub sameIndex : ℕ → ℕ → ℕ → Index
+sameIndex last next count = choose (eqb last 0) (λ _. I.Refused 4) (λ _. I.Named last next count)
+
+abbrev pub argumentAt : List ℕ → Cursor → Index
+argumentAt s c =
+    choose (beginsWith 60 (drop (c .at + 1) s)) (λ _. sameIndex (c .last) (c .at + 2) (c .count)) (λ _. indexAt s (c .at + 1) (c .count))
+
 -- "`%%` is a piece holding one `%`, `%n` a piece holding byte 10; neither uses an argument."
 abbrev pub afterPercent : List ℕ → List ℕ → Cursor → List ℕ → Step
 afterPercent s ks c bs =

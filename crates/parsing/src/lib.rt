@@ -1,6 +1,8 @@
 // Reading a format: the next piece from a cursor on, and the check of a format against a list of kinds.
 // Ported from format_string.rs of datafusion-spark 55.2.0 (Apache-2.0; see NOTICE): Formatter::parse. The original keeps a
 // vector of elements; here a cursor reads the format again from an offset.
+pub mod scan;
+
 use conversions::KindByte;
 use numerals::NumericParam;
 use numerals::Taken;
@@ -10,7 +12,7 @@ ghost use mathlib.Core.Path.{_≡_};
 ghost use Prim.Native.Nat.{_+_, _≤_, _<_, max};
 ghost use lib.ListN.{length, drop};
 ghost use Rattle.specifiers.specs.Specifier.{beginsWith};
-ghost use Rattle.parsing.specs.Pieces.{start, passed, used, textLength, isIndex, indexAt, elementOf, sameArgument, afterIndex, afterPercent, pieceAt};
+ghost use Rattle.parsing.specs.Pieces.{start, passed, used, isIndex, indexAt, sameIndex, argumentAt, elementOf, afterIndex, afterPercent, pieceAt};
 ghost use Rattle.parsing.specs.Check.{ended, isKnown, allKnown, checked};
 
 // The argument of an element: its index, the place behind it, and the running count.
@@ -112,22 +114,8 @@ fn take_index(fmt: &[u8], at: usize, count: usize) -> Index
     }
 }
 
-// The place of the next `%` from a place on, or the format's end.
-fn text_end(fmt: &[u8], at: usize) -> usize
-    ensures { λ r. ⌜ r ≡ at + textLength (drop at (now (fmt .entry))) ⌝ }
-{
-    let mut i = at;
-    while i < fmt.len() {
-        if fmt[i] == 37 {
-            return i;
-        }
-        i = i + 1;
-    }
-    i
-}
-
 // The cursor behind a piece that uses no argument.
-fn passed_by(c: Cursor, at: usize) -> Cursor
+pub fn passed_by(c: Cursor, at: usize) -> Cursor
     requires { ⌜ c .pieces < 512 ⌝ }
     ensures { λ r. ⌜ r ≡ passed c at ⌝ }
 {
@@ -150,7 +138,7 @@ fn larger(a: usize, b: usize) -> usize
 }
 
 // The cursor behind an element.
-fn used_by(c: Cursor, at: usize, count: usize, last: usize, argument: usize) -> Cursor
+pub fn used_by(c: Cursor, at: usize, count: usize, last: usize, argument: usize) -> Cursor
     requires { ⌜ c .pieces < 512 ⌝ }
     ensures { λ r. ⌜ r ≡ used c at count last argument ⌝ }
 {
@@ -196,31 +184,41 @@ fn take_element(
     }
 }
 
-// An element behind `%<`.
-fn take_same(fmt: &[u8], kinds: &[u8], c: Cursor) -> Step
-    requires { ⌜ (c .pieces < 512) × (c .at + 1 < length (now fmt)) ⌝ }
-    ensures { λ r. ⌜ r ≡ sameArgument (now (fmt .entry)) (now (kinds .entry)) c ⌝ }
+// The argument of an element behind `%<`: the last one named without `<`.
+fn same_index(last: usize, next: usize, count: usize) -> Index
+    ensures { λ r. ⌜ r ≡ sameIndex last next count ⌝ }
 {
-    let at = c.at;
-    let last = c.last;
-    let count = c.count;
     if last == 0 {
-        return Step::Refused {
-            number: 4,
-            place: at,
-        };
+        return Index::Refused { number: 4 };
     }
-    take_element(fmt, kinds, c, at + 2, last, count, last)
+    Index::Named {
+        argument: last,
+        next: next,
+        count: count,
+    }
 }
 
-// An element with an index or the running count.
+// The argument of the element whose `%` stands at the cursor.
+fn take_argument(fmt: &[u8], c: Cursor) -> Index
+    requires { ⌜ (c .pieces < 512) × (c .count ≤ c .pieces) × (c .at < length (now fmt)) ⌝ }
+    ensures { λ r. ⌜ r ≡ argumentAt (now (fmt .entry)) c ⌝ }
+{
+    let second = c.at + 1;
+    let count = c.count;
+    if is_byte(fmt, second, 60) {
+        let last = c.last;
+        return same_index(last, second + 1, count);
+    }
+    take_index(fmt, second, count)
+}
+
+// An element, whichever way it names its argument. The one call of take_element lets it be compiled in place.
 fn take_next(fmt: &[u8], kinds: &[u8], c: Cursor) -> Step
     requires { ⌜ (c .pieces < 512) × (c .count ≤ c .pieces) × (c .at < length (now fmt)) ⌝ }
-    ensures { λ r. ⌜ r ≡ afterIndex (now (fmt .entry)) (now (kinds .entry)) c (indexAt (now (fmt .entry)) (c .at + 1) (c .count)) ⌝ }
+    ensures { λ r. ⌜ r ≡ afterIndex (now (fmt .entry)) (now (kinds .entry)) c (argumentAt (now (fmt .entry)) c) ⌝ }
 {
     let at = c.at;
-    let count = c.count;
-    let index = take_index(fmt, at + 1, count);
+    let index = take_argument(fmt, c);
     match index {
         Index::Named {
             argument,
@@ -256,9 +254,6 @@ fn take_percent(fmt: &[u8], kinds: &[u8], c: Cursor) -> Step
             next: passed_by(c, at + 2),
         };
     }
-    if is_byte(fmt, second, 60) {
-        return take_same(fmt, kinds, c);
-    }
     take_next(fmt, kinds, c)
 }
 
@@ -281,7 +276,7 @@ pub fn next_piece(fmt: &[u8], kinds: &[u8], c: Cursor) -> Step
     if fmt[at] == 37 {
         return take_percent(fmt, kinds, c);
     }
-    let end = text_end(fmt, at);
+    let end = scan::text_end(fmt, at);
     Step::Found {
         piece: Piece::Fixed {
             start: at,

@@ -18,9 +18,9 @@ use Rattle.pieces.specs.Texts.{Argument, Ready, plannedText, unpadded, p
 use Rattle.pieces.proofs.Rows.{named-short}
 
 -- fixed text is as long as its piece says
-pub fixed-size : (s row : List ℕ) (start len : ℕ) → start + len ≤ length s → sizeOf s row (Fixed start len) ≡ S.Bytes len
-unfolding sizeOf stopOf pieceText unpadded
-fixed-size s row start len h = ap S.Bytes (length-take-le len (drop start s) (simp length-drop (omega arith)))
+pub fixed-length : (s row : List ℕ) (start len : ℕ) → start + len ≤ length s → length (unpadded s row (Fixed start len)) ≡ len
+unfolding unpadded
+fixed-length s row start len h = length-take-le len (drop start s) (simp length-drop (omega arith))
 
 module _ (s row : List ℕ) (e : Element) where
   pub argument-in : Ready s row (AnElement e) → Argument row (e .argument)

@@ -1,4 +1,4 @@
-// The text of one piece of a format, for a row: what is handed out of the format or the row, its length, and its writer.
+// The text of one piece of a format, for a row: what is handed out of the format or the row, and its writer, which answers its length.
 // Ported from format_string.rs of datafusion-spark 55.2.0 (Apache-2.0; see NOTICE): one turn of the loop of Formatter::format.
 use conversions::Kind;
 use conversions::KindByte;
@@ -11,7 +11,7 @@ ghost use Prim.Native.Nat.{_^_, _≤_, _<_};
 ghost use lib.ListN.{length};
 ghost use Rattle.parsing.specs.declared.Piece.the-variants as P;
 ghost use Rattle.rows.specs.Row.{kindByteOf, valueOf};
-ghost use Rattle.writing.specs.Laid.{laid};
+ghost use Rattle.writing.specs.Laid.{laidIfRoom};
 ghost use Rattle.pieces.specs.Texts.{isText, Argument, Ready, namedText, unpadded, planOf, pieceText, sizeOf, SizeBelow};
 
 // The length of a piece's text, or the number that stops it.
@@ -21,7 +21,7 @@ pub enum Size {
 }
 
 // The kind byte of an argument.
-fn kind_byte(row: &[u8], argument: usize) -> u8
+pub fn kind_byte(row: &[u8], argument: usize) -> u8
     requires { ⌜ Argument (now row) argument ⌝ }
     ensures { λ r. ⌜ r ≡ kindByteOf (now (row .entry)) argument ⌝ }
 {
@@ -29,7 +29,7 @@ fn kind_byte(row: &[u8], argument: usize) -> u8
 }
 
 // The value of an argument.
-fn value_of(row: &[u8], argument: usize) -> u64
+pub fn value_of(row: &[u8], argument: usize) -> u64
     requires { ⌜ Argument (now row) argument ⌝ }
     ensures { λ r. ⌜ r ≡ valueOf (now (row .entry)) argument ⌝ }
 {
@@ -67,7 +67,7 @@ fn named_text<'a>(row: &'a [u8], argument: usize) -> &'a [u8]
 }
 
 // The unpadded text of a piece, where it is part of the format or of the row; else it is empty.
-pub fn unpadded_text<'a>(fmt: &'a [u8], row: &'a [u8], piece: Piece) -> &'a [u8]
+fn unpadded_text<'a>(fmt: &'a [u8], row: &'a [u8], piece: Piece) -> &'a [u8]
     requires { ⌜ Ready (now fmt) (now row) piece ⌝ }
     ensures { λ r. ⌜ now r ≡ unpadded (now (fmt .entry)) (now (row .entry)) piece ⌝ }
 {
@@ -88,55 +88,43 @@ fn plan_of<'a>(fmt: &'a [u8], row: &'a [u8], e: Element) -> Planned
     elements::plan_element(e, kind_byte(row, argument), part, value_of(row, argument))
 }
 
-// The size of an element's text.
-fn element_len<'a>(fmt: &'a [u8], row: &'a [u8], e: Element) -> Size
+// Writes an element's text where there is room for it.
+fn put_element<'a>(out: &mut [u8], fmt: &'a [u8], row: &'a [u8], e: Element) -> Size
     requires { ⌜ Ready (now fmt) (now row) (P.Element e) ⌝ }
-    ensures { λ r. ⌜ (r ≡ sizeOf (now (fmt .entry)) (now (row .entry)) (P.Element e)) × (SizeBelow r) ⌝ }
+    ensures { λ r. ⌜ (r ≡ sizeOf (now (fmt .entry)) (now (row .entry)) (P.Element e)) × (SizeBelow r) × (now (out .exit) ≡ laidIfRoom (now (out .entry)) (pieceText (now (fmt .entry)) (now (row .entry)) (P.Element e))) ⌝ }
 {
     let part = unpadded_text(fmt, row, Piece::Element(e));
     let planned = plan_of(fmt, row, e);
     match planned {
-        Planned::Laid(plan) => Size::Bytes(bodies::plan_len(part, plan)),
+        Planned::Laid(plan) => Size::Bytes(bodies::put_plan(out, part, plan)),
         Planned::Stops(number) => Size::Stops(number),
     }
 }
 
-// The size of a piece's text; nothing is written.
-pub fn piece_len<'a>(fmt: &'a [u8], row: &'a [u8], piece: Piece) -> Size
+// Writes fixed text where there is room for it.
+pub fn put_fixed<'a>(out: &mut [u8], fmt: &'a [u8], row: &'a [u8], start: usize, len: usize) -> Size
+    requires { ⌜ Ready (now fmt) (now row) (P.Fixed start len) ⌝ }
+    ensures { λ r. ⌜ (r ≡ sizeOf (now (fmt .entry)) (now (row .entry)) (P.Fixed start len)) × (SizeBelow r) × (now (out .exit) ≡ laidIfRoom (now (out .entry)) (pieceText (now (fmt .entry)) (now (row .entry)) (P.Fixed start len))) ⌝ }
+{
+    let text = unpadded_text(
+        fmt,
+        row,
+        Piece::Fixed {
+            start: start,
+            len: len,
+        },
+    );
+    Size::Bytes(writing::put_text(out, text) as u64)
+}
+
+// Writes a piece's text where there is room for it; else writes nothing. Answers its length either way, or the number that stops it.
+pub fn put_piece<'a>(out: &mut [u8], fmt: &'a [u8], row: &'a [u8], piece: Piece) -> Size
     requires { ⌜ Ready (now fmt) (now row) piece ⌝ }
-    ensures { λ r. ⌜ (r ≡ sizeOf (now (fmt .entry)) (now (row .entry)) piece) × (SizeBelow r) ⌝ }
+    ensures { λ r. ⌜ (r ≡ sizeOf (now (fmt .entry)) (now (row .entry)) piece) × (SizeBelow r) × (now (out .exit) ≡ laidIfRoom (now (out .entry)) (pieceText (now (fmt .entry)) (now (row .entry)) piece)) ⌝ }
 {
     match piece {
-        Piece::Fixed { start: _, len } => Size::Bytes(len as u64),
-        Piece::NewLine => Size::Bytes(1),
-        Piece::Element(e) => element_len(fmt, row, e),
-    }
-}
-
-// Writes an element's text. Answers its length.
-fn write_element<'a>(out: &mut [u8], fmt: &'a [u8], row: &'a [u8], e: Element) -> usize
-    requires { ⌜ (Ready (now fmt) (now row) (P.Element e)) × (length (pieceText (now fmt) (now row) (P.Element e)) ≤ length (now out)) ⌝ }
-    ensures { λ r. ⌜ (r ≡ length (pieceText (now (fmt .entry)) (now (row .entry)) (P.Element e))) × (now (out .exit) ≡ laid (now (out .entry)) (pieceText (now (fmt .entry)) (now (row .entry)) (P.Element e))) ⌝ }
-{
-    let part = unpadded_text(fmt, row, Piece::Element(e));
-    let planned = plan_of(fmt, row, e);
-    match planned {
-        Planned::Laid(plan) => bodies::write_plan(out, part, plan),
-        Planned::Stops(_) => 0,
-    }
-}
-
-// Writes a piece's text. Answers its length.
-pub fn write_piece<'a>(out: &mut [u8], fmt: &'a [u8], row: &'a [u8], piece: Piece) -> usize
-    requires { ⌜ (Ready (now fmt) (now row) piece) × (length (pieceText (now fmt) (now row) piece) ≤ length (now out)) ⌝ }
-    ensures { λ r. ⌜ (r ≡ length (pieceText (now (fmt .entry)) (now (row .entry)) piece)) × (now (out .exit) ≡ laid (now (out .entry)) (pieceText (now (fmt .entry)) (now (row .entry)) piece)) ⌝ }
-{
-    match piece {
-        Piece::Fixed { start: _, len: _ } => writing::write_text(
-            out,
-            unpadded_text(fmt, row, piece),
-        ),
-        Piece::NewLine => writing::write_fill(out, 1, 10),
-        Piece::Element(e) => write_element(out, fmt, row, e),
+        Piece::Fixed { start, len } => put_fixed(out, fmt, row, start, len),
+        Piece::NewLine => Size::Bytes(writing::put_text(out, b"\n") as u64),
+        Piece::Element(e) => put_element(out, fmt, row, e),
     }
 }

@@ -4,6 +4,7 @@ use mathlib.Core.Bool.{Bool, true, false, _&&_}
 use mathlib.Core.List.{List}
 use mathlib.Core.Option.{Option, none, some}
 use Prim.Native.Nat.{ℕ, _≤_}
+use native.Mathlib.Omega.{arith}
 use lib.Dec.{leb, ltb}
 use lib.ListN.{length}
 use borrow.Author.Tests.{leb-true, ltb-false}
@@ -15,7 +16,7 @@ use Rattle.parsing.specs.declared.Ended.{Ended}
 use Rattle.parsing.specs.declared.Ended.the-variants.{Finished, Stopped}
 use Rattle.parsing.proofs.Cover.{count}
 use Rattle.rows.specs.Row.{kindsOf, isRow}
-use Rattle.printing.specs.Printing.{printedText, Stop, firstStop, unlessStopped, measuredEnd, measured, within, printed}
+use Rattle.printing.specs.Printing.{printedText, Stop, firstStop, unlessStopped, measuredEnd, measured, within, printed, Room}
 use Rattle.printing.specs.declared.Outcome.{Outcome}
 use Rattle.printing.specs.declared.Outcome.the-variants.{Accepted, Refused}
 
@@ -52,6 +53,7 @@ accepted s row n k e = subst (Says s row) e (says s row)
 
 -- What a format and row have that are printed into so much room.
 pub record Fitted (s row : List ℕ) (room slots n k : ℕ) : Type 0 where
+  pub answer : measured s row ≡ Accepted n k
   pub accepts : Accepts s row n k
   pub bytes : n ≤ room
   pub wide : n ≤ 4294967295
@@ -69,9 +71,17 @@ module _ (s row : List ℕ) (room slots : ℕ) where
       enough h =
           let p = both (leb n room && leb n 4294967295) (leb k slots) h in
           let q = both (leb n room) (leb n 4294967295) (p .0) in
-          record { accepts = accepted s row n k e; bytes = leb-true n room (q .0); wide = leb-true n 4294967295 (q .1); slots-enough = leb-true k slots (p .1) }
+          record { answer = e; accepts = accepted s row n k e; bytes = leb-true n room (q .0); wide = leb-true n 4294967295 (q .1); slots-enough = leb-true k slots (p .1) }
   fits (Refused number place) e = tt
 
   pub fitted : (n k : ℕ) → printed s row room slots ≡ Accepted n k → Fitted s row room slots n k
   unfolding printed
   fitted n k e = subst (Fits s row room slots) e (fits (measured s row) refl)
+
+-- that 17 is excluded
+pub fitted-room : (s row d e : List ℕ) (n k : ℕ) → Fitted s row (length d) (length e) n k → Room s row d e
+fitted-room s row d e n k f = record {
+  bytes = omega (arith, f .accepts .total, f .bytes);
+  wide = omega (arith, f .accepts .total, f .wide);
+  slots = omega (arith, f .accepts .pieces, f .slots-enough);
+}

@@ -2,5 +2,6 @@ pub mod Joined
 pub mod Reached
 pub mod Tallies
 pub mod Accepted
-pub mod Written
+pub mod Behind
+pub mod Laying
 pub mod Demand

@@ -4,6 +4,7 @@ use mathlib.Core.List.{List, [], _∷_}
 use Prim.Native.Nat.{ℕ, zero, suc, _+_, _-_, _≤_, _<_}
 use native.Mathlib.Omega.{arith}
 use lib.ListN.{length, getD, take, drop}
+use borrow.Author.Tests.{le-ltb}
 use Rattle.parsing.specs.Pieces.{start, pieceAt}
 use Rattle.parsing.specs.Check.{afterStep, endFrom, ended}
 use Rattle.parsing.specs.Listed.{Placed, andRest, placedFrom, placed, PieceIn}
@@ -66,6 +67,11 @@ module _ (s ks : List ℕ) where
   unfolding endFrom placedFrom
   reached-out left c at e =
       (sym (at .end) ∙ ap (λ (n : ℕ). endFrom n s ks c) e, none-left (c .pieces) (placed s ks) (at .rest ∙ ap (λ (n : ℕ). placedFrom n s ks c) e))
+
+  -- behind the format's last byte
+  pub past-end : (c : Cursor) → length s ≤ c .at → pieceAt s ks c ≡ End
+  unfolding pieceAt
+  past-end c h = simp (le-ltb (c .at) (length s) h)
 
   -- every piece that is listed lies inside the format, with an argument that there is
   inside-from : (n : ℕ) (c : Cursor) (i : ℕ) (d : Placed) → i < length (placedFrom n s ks c) → PieceIn s ks (getD (placedFrom n s ks c) i d .piece)

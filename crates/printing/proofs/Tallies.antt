@@ -102,6 +102,22 @@ module _ (s row : List ℕ) where
       ∙ sym (ap (λ (x : Option Stop). tallied x (length (joined (textsOf s row ps)) + length (pieceText s row (p .piece)))) (stop-one ps p))
       ∙ ap (tallied (firstStop s row (ps ++ (p ∷ [])))) (sym (ap length (text-one ps p) ∙ length-append (joined (textsOf s row ps)) (pieceText s row (p .piece))))
 
+  -- the length so far, of pieces of which none is stopped
+  stop-part : (k : ℕ) (ps : List Placed) → firstStop s row ps ≡ none → firstStop s row (take k ps) ≡ none
+  unfolding firstStop
+  stop-part zero ps e = refl
+  stop-part (suc k) [] e = refl
+  stop-part (suc k) (p ∷ ps) e = go (stopOf s row (p .piece)) refl e (stop-part k ps)
+    where
+      go : (x : Option ℕ) → stopOf s row (p .piece) ≡ x → stopAt x (p .from) (firstStop s row ps) ≡ none → (firstStop s row ps ≡ none → firstStop s row (take k ps) ≡ none)
+          → stopAt x (p .from) (firstStop s row (take k ps)) ≡ none
+      go none q e ih = ih e
+      go (some n) q e ih = e
+
+  pub tally-length : (k : ℕ) (ps : List Placed) → firstStop s row ps ≡ none → tallyOf (take k ps) ≡ Length (length (joined (textsOf s row (take k ps))))
+  unfolding tallyOf
+  tally-length k ps e = ap (λ (x : Option Stop). tallied x (length (joined (textsOf s row (take k ps))))) (stop-part k ps e)
+
   pub tally-none : tallyOf [] ≡ Length 0
   unfolding tallyOf firstStop textsOf joined
   tally-none = refl

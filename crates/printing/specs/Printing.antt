@@ -1,17 +1,18 @@
 -- A row printed, or only measured, under a format. 01, "A row printed, or only measured" and "What stops a call".
-use Prim.Native.Nat.{ℕ, _+_, _*_, _^_, _≤_}
+use Prim.Native.Nat.{ℕ, _+_, _*_, _%_, _^_, _≤_, min}
 use mathlib.Core.Path.{_≡_}
 use mathlib.Core.Bool.{true, _&&_}
 use mathlib.Core.List.{List, [], _∷_, _++_, map}
 use mathlib.Core.Option.{Option, none, some}
 use lib.Dec.{leb, ltb}
-use lib.ListN.{length}
+use lib.ListN.{length, take, set}
 use Rattle.writing.specs.Choose.{choose}
 use Rattle.writing.specs.Laid.{laid}
 use Rattle.utf8.specs.Utf8.{wellFormed}
 use Rattle.parsing.specs.Check.{ended}
 use Rattle.parsing.specs.Listed.{Placed, placed}
 use Rattle.parsing.specs.declared.Piece.{Piece}
+use Rattle.parsing.specs.declared.Cursor.{Cursor}
 use Rattle.parsing.specs.declared.Ended.{Ended}
 use Rattle.parsing.specs.declared.Ended.the-variants.{Finished, Stopped}
 use Rattle.rows.specs.Row.{kindsOf, isRow}
@@ -86,14 +87,17 @@ abbrev pub written : Outcome → List ℕ → List ℕ → List ℕ
 written (Accepted n k) d t = laid d t
 written (Refused number place) d t = d
 
--- The first pass, piece by piece.
+-- A pass, piece by piece: the length so far, or the first piece that is not printed.
 abbrev pub addSize : ℕ → ℕ → Size → Tally
 addSize n place (S.Bytes m) = Length (n + m)
 addSize n place (S.Stops number) = Stops number place
 
+abbrev pub added : ℕ → Size → Tally → Tally
+added place size (Length n) = addSize n place size
+added place size (Stops number first) = Stops number first
+
 abbrev pub counted : List ℕ → List ℕ → Piece → ℕ → Tally → Tally
-counted s row p place (Length n) = addSize n place (sizeOf s row p)
-counted s row p place (Stops number first) = Stops number first
+counted s row p place t = added place (sizeOf s row p) t
 
 abbrev pub outcomeOf : Tally → ℕ → Outcome
 outcomeOf (Length n) k = Accepted n k
@@ -115,3 +119,25 @@ pub record Room (s row out ends : List ℕ) : Type 0 where
   pub bytes : length (printedText s row) ≤ length out
   pub wide : length (printedText s row) ≤ 4294967295
   pub slots : length (placed s (kindsOf row)) ≤ length ends
+
+-- What a pass leaves of d and e, of an accepted format and row: the text and its ends, where these have room.
+abbrev pub Filled : List ℕ → List ℕ → List ℕ → List ℕ → Outcome → List ℕ → List ℕ → Type 0
+Filled s row d e (Accepted n k) out ends = Room s row d e → (out ≡ laid d (printedText s row)) × (ends ≡ laid e (endsFrom 0 (texts s row)))
+Filled s row d e (Refused number place) out ends = Unit {0}
+
+-- Where the next piece goes: behind the length so far, or nowhere.
+abbrev pub behind : Tally → ℕ → ℕ
+behind (Length n) room = min n room
+behind (Stops number place) room = room
+
+-- The k-th end, in 32 bits.
+abbrev pub withEnd : ℕ → Tally → List ℕ → List ℕ
+withEnd k (Length n) e = set e k (n % 4294967296)
+withEnd k (Stops number place) e = e
+
+-- One piece more: what is added up, the text behind the length so far where it has room, and its end.
+pub record Added (s row : List ℕ) (p : Piece) (c : Cursor) (t : Tally) (d e : List ℕ) (r : Tally) (out ends : List ℕ) : Type 0 where
+  pub tally : r ≡ counted s row p (c .at) t
+  pub below : TallyBelow (c .pieces + 1) r
+  pub bytes : (n : ℕ) → t ≡ Length n → n + length (pieceText s row p) ≤ length d → out ≡ laid d (take n d ++ pieceText s row p)
+  pub slot : ends ≡ withEnd (c .pieces) r e

@@ -1,19 +1,22 @@
 // Measuring and printing a row under a format.
 // Ported from format_string.rs of datafusion-spark 55.2.0 (Apache-2.0; see NOTICE): Formatter::format. The original pushes the
-// text of each element to a string; here a first pass finds every refusal and the text's length, and a second writes.
+// text of each element to a string; here one pass finds every refusal and the text's length, and writes as far as it has
+// room; what is lent to a caller is written only once no refusal is left.
 use parsing::Cursor;
 use parsing::Piece;
 use parsing::Step;
 use pieces::Size;
 use rows::RowRead;
 ghost use mathlib.Core.Path.{_≡_};
-ghost use Prim.Native.Nat.{_+_, _*_, _^_, _≤_, _<_};
+ghost use mathlib.Core.Bool.{true};
+ghost use Prim.Native.Nat.{_+_, _-_, _≤_, _<_};
 ghost use lib.ListN.{length};
 ghost use Rattle.parsing.specs.Check.{ended};
-ghost use Rattle.rows.specs.Row.{kindsOf};
-ghost use Rattle.pieces.specs.Texts.{Ready};
-ghost use Rattle.writing.specs.Laid.{laid};
-ghost use Rattle.printing.specs.Printing.{Passed, Room, TallyBelow, texts, counted, outcomeOf, printedText, endsFrom, measuredEnd, measured, within, printed, written};
+ghost use Rattle.rows.specs.Row.{kindsOf, kindByteOf};
+ghost use Rattle.parsing.specs.declared.Piece.the-variants as P;
+ghost use Rattle.pieces.specs.Texts.{Ready, SizeBelow};
+ghost use Rattle.plain.specs.Plain.{isLetter, isWhole, plainElement};
+ghost use Rattle.printing.specs.Printing.{Passed, TallyBelow, Filled, Added, behind, withEnd, texts, added, outcomeOf, printedText, endsFrom, measuredEnd, measured, within, printed, written};
 ghost use Rattle.printing.specs.Demand.{Demanded};
 
 // The answer of a call: the text's length and the number of pieces, or a refusal with its number and place.
@@ -28,22 +31,97 @@ pub enum Tally {
     Stops { number: u8, place: usize },
 }
 
-// One more piece, found at the cursor. The first that is not printed stays.
-fn count_piece<'a>(fmt: &'a [u8], row: &'a [u8], piece: Piece, c: Cursor, tally: Tally) -> Tally
-    requires { ⌜ (Ready (now fmt) (now row) piece) × (c .pieces < 512) × (TallyBelow (c .pieces) tally) ⌝ }
-    ensures { λ r. ⌜ (r ≡ counted (now (fmt .entry)) (now (row .entry)) piece (c .at) tally) × (TallyBelow (c .pieces + 1) r) ⌝ }
+// Where the next piece goes in so much room.
+fn place_behind(tally: Tally, room: usize) -> usize
+    ensures { λ r. ⌜ (r ≡ behind tally room) × (r ≤ room) ⌝ }
+{
+    let Tally::Length(n) = tally else {
+        return room;
+    };
+    if n < room as u64 {
+        return n as usize;
+    }
+    room
+}
+
+// One more size, of the piece at the cursor, and its end. The first piece that is not printed stays.
+fn add_size(tally: Tally, size: Size, c: Cursor, ends: &mut [u32]) -> Tally
+    requires { ⌜ (SizeBelow size) × (c .pieces < 512) × (TallyBelow (c .pieces) tally) ⌝ }
+    ensures { λ r. ⌜ (r ≡ added (c .at) size tally) × (TallyBelow (c .pieces + 1) r) × (now (ends .exit) ≡ withEnd (c .pieces) r (now (ends .entry))) ⌝ }
 {
     let Tally::Length(n) = tally else {
         return tally;
     };
-    let size = pieces::piece_len(fmt, row, piece);
+    let k = c.pieces;
     match size {
-        Size::Bytes(m) => Tally::Length(n + m),
+        Size::Bytes(m) => {
+            let end = n + m;
+            if k < ends.len() {
+                ends[k] = (end % 4294967296) as u32;
+            }
+            Tally::Length(end)
+        }
         Size::Stops(number) => Tally::Stops {
             number: number,
             place: c.at,
         },
     }
+}
+
+// One more piece, found at the cursor.
+fn add_piece<'a>(
+    fmt: &'a [u8],
+    row: &'a [u8],
+    piece: Piece,
+    c: Cursor,
+    tally: Tally,
+    out: &mut [u8],
+    ends: &mut [u32],
+) -> Tally
+    requires { ⌜ (Ready (now fmt) (now row) piece) × (c .pieces < 512) × (TallyBelow (c .pieces) tally) ⌝ }
+    ensures { λ r. ⌜ Added (now (fmt .entry)) (now (row .entry)) piece c tally (now (out .entry)) (now (ends .entry)) r (now (out .exit)) (now (ends .exit)) ⌝ }
+{
+    let from = place_behind(tally, out.len());
+    let size = pieces::put_piece(&mut out[from..], fmt, row, piece);
+    add_size(tally, size, c, ends)
+}
+
+// One more piece, fixed text from the cursor up to a place.
+fn add_fixed<'a>(
+    fmt: &'a [u8],
+    row: &'a [u8],
+    end: usize,
+    c: Cursor,
+    tally: Tally,
+    out: &mut [u8],
+    ends: &mut [u32],
+) -> Tally
+    requires { ⌜ (Ready (now fmt) (now row) (P.Fixed (c .at) (end - c .at))) × (c .pieces < 512) × (TallyBelow (c .pieces) tally) × (c .at ≤ end) ⌝ }
+    ensures { λ r. ⌜ Added (now (fmt .entry)) (now (row .entry)) (P.Fixed (c .at) (end - c .at)) c tally (now (out .entry)) (now (ends .entry)) r (now (out .exit)) (now (ends .exit)) ⌝ }
+{
+    let at = c.at;
+    let from = place_behind(tally, out.len());
+    let size = pieces::put_fixed(&mut out[from..], fmt, row, at, end - at);
+    add_size(tally, size, c, ends)
+}
+
+// One more piece, `%d` or `%x` at the cursor.
+fn add_plain<'a>(
+    fmt: &'a [u8],
+    row: &'a [u8],
+    letter: u8,
+    c: Cursor,
+    tally: Tally,
+    out: &mut [u8],
+    ends: &mut [u32],
+) -> Tally
+    requires { ⌜ (Ready (now fmt) (now row) (P.Element (plainElement letter (c .count + 1)))) × (c .pieces < 512) × (TallyBelow (c .pieces) tally) × (isLetter letter ≡ true) × (isWhole (kindByteOf (now row) (c .count + 1)) ≡ true) × (c .count < 512) ⌝ }
+    ensures { λ r. ⌜ Added (now (fmt .entry)) (now (row .entry)) (P.Element (plainElement letter (c .count + 1))) c tally (now (out .entry)) (now (ends .entry)) r (now (out .exit)) (now (ends .exit)) ⌝ }
+{
+    let argument = c.count + 1;
+    let from = place_behind(tally, out.len());
+    let size = plain::put_plain(&mut out[from..], fmt, row, letter, argument);
+    add_size(tally, size, c, ends)
 }
 
 // The outcome of a format that was read to its end.
@@ -62,19 +140,45 @@ fn outcome_of(tally: Tally, pieces: usize) -> Outcome
     }
 }
 
-// The first pass: the format's own refusals, then the first piece that is not printed, else the text's length.
-fn measure_pieces<'a>(fmt: &'a [u8], row: &'a [u8], kinds: &'a [u8]) -> Outcome
+// A pass over the pieces: the format's own refusals, then the first piece that is not printed, else the text's length. The text and its ends are written
+// on the way as far as they have room. Fixed text and plain columns are taken at a glance, for speed alone.
+fn lay_pieces<'a>(
+    fmt: &'a [u8],
+    row: &'a [u8],
+    kinds: &'a [u8],
+    out: &mut [u8],
+    ends: &mut [u32],
+) -> Outcome
     requires { ⌜ Passed (now fmt) (now row) (now kinds) ⌝ }
     ensures { λ r. ⌜ r ≡ measuredEnd (now (fmt .entry)) (now (row .entry)) (ended (now (fmt .entry)) (kindsOf (now (row .entry)))) ⌝ }
+    ensures { λ r. ⌜ Filled (now (fmt .entry)) (now (row .entry)) (now (out .entry)) (now (ends .entry)) r (now (out .exit)) (now (ends .exit)) ⌝ }
 {
     let mut c = parsing::first_cursor();
     let mut tally = Tally::Length(0);
     let mut left: u32 = 513;
     while 0 < left {
+        let at = c.at;
+        if fmt.len() <= at {
+            return outcome_of(tally, c.pieces);
+        }
+        if plain::is_fixed(fmt, c) {
+            let end = parsing::scan::text_end(fmt, at);
+            tally = add_fixed(fmt, row, end, c, tally, out, ends);
+            c = parsing::passed_by(c, end);
+            left = left - 1;
+            continue;
+        }
+        if plain::is_plain(fmt, kinds, c) {
+            let count = c.count + 1;
+            tally = add_plain(fmt, row, fmt[at + 1], c, tally, out, ends);
+            c = parsing::used_by(c, at + 2, count, count, count);
+            left = left - 1;
+            continue;
+        }
         let step = parsing::next_piece(fmt, kinds, c);
         match step {
             Step::Found { piece, next } => {
-                tally = count_piece(fmt, row, piece, c, tally);
+                tally = add_piece(fmt, row, piece, c, tally, out, ends);
                 c = next;
             }
             Step::Refused { number, place } => {
@@ -95,9 +199,10 @@ fn measure_pieces<'a>(fmt: &'a [u8], row: &'a [u8], kinds: &'a [u8]) -> Outcome
     }
 }
 
-// The text's length and the number of pieces; nothing is written.
-pub fn measure<'a>(fmt: &'a [u8], row: &'a [u8]) -> Outcome
+// The outcome of measuring, and the text and its ends where these have room; what is left otherwise is not said.
+pub fn stage<'a>(fmt: &'a [u8], row: &'a [u8], out: &mut [u8], ends: &mut [u32]) -> Outcome
     ensures { λ r. ⌜ r ≡ measured (now (fmt .entry)) (now (row .entry)) ⌝ }
+    ensures { λ r. ⌜ Filled (now (fmt .entry)) (now (row .entry)) (now (out .entry)) (now (ends .entry)) r (now (out .exit)) (now (ends .exit)) ⌝ }
 {
     if 4096 < fmt.len() {
         return Outcome::Refused {
@@ -117,43 +222,20 @@ pub fn measure<'a>(fmt: &'a [u8], row: &'a [u8]) -> Outcome
             place: 0,
         };
     };
-    measure_pieces(fmt, row, &row[6..6 + count])
+    lay_pieces(fmt, row, &row[6..6 + count], out, ends)
 }
 
-// The second pass: each piece's text into the output from the end so far, and its end.
-fn write_pieces<'a>(fmt: &'a [u8], row: &'a [u8], kinds: &'a [u8], out: &mut [u8], ends: &mut [u32])
-    requires { ⌜ (Passed (now fmt) (now row) (now kinds)) × (Room (now fmt) (now row) (now out) (now ends)) ⌝ }
-    ensures { λ r. ⌜ (now (out .exit) ≡ laid (now (out .entry)) (printedText (now (fmt .entry)) (now (row .entry)))) × (now (ends .exit) ≡ laid (now (ends .entry)) (endsFrom 0 (texts (now (fmt .entry)) (now (row .entry))))) ⌝ }
+// The text's length and the number of pieces; nothing is written.
+pub fn measure<'a>(fmt: &'a [u8], row: &'a [u8]) -> Outcome
+    ensures { λ r. ⌜ r ≡ measured (now (fmt .entry)) (now (row .entry)) ⌝ }
 {
-    let mut c = parsing::first_cursor();
-    let mut at: usize = 0;
-    let mut left: u32 = 513;
-    while 0 < left {
-        let step = parsing::next_piece(fmt, kinds, c);
-        match step {
-            Step::Found { piece, next } => {
-                let end = at + pieces::write_piece(&mut out[at..], fmt, row, piece);
-                let k = c.pieces;
-                ends[k] = end as u32;
-                at = end;
-                c = next;
-            }
-            Step::Refused {
-                number: _,
-                place: _,
-            } => {
-                return;
-            }
-            Step::End => {
-                return;
-            }
-        }
-        left = left - 1;
-    }
+    let mut text = [0u8; 1];
+    let mut slots = [0u32; 1];
+    stage(fmt, row, &mut text[..0], &mut slots[..0])
 }
 
 // 17 for a text without room, or with more pieces than ends.
-fn fit(found: Outcome, room: u64, slots: u64) -> Outcome
+pub fn fit(found: Outcome, room: u64, slots: u64) -> Outcome
     ensures { λ r. ⌜ r ≡ within room slots found ⌝ }
 {
     let Outcome::Accepted { length, pieces } = found else {
@@ -188,6 +270,6 @@ pub fn print<'a>(fmt: &'a [u8], row: &'a [u8], out: &mut [u8], ends: &mut [u32])
     else {
         return answer;
     };
-    write_pieces(fmt, row, &row[6..6 + rows::count_of(row)], out, ends);
+    stage(fmt, row, out, ends);
     answer
 }

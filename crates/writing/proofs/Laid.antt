@@ -1,14 +1,17 @@
 -- Laws of `laid`, a text over the start of a list. Assumes nothing.
+use mathlib.Core.Bool.{true, false}
 use mathlib.Core.Path.{_≡_, refl, sym, ap, _∙_}
 use mathlib.Core.List.{List, [], _∷_, _++_, append-assoc, append-nil}
 use Prim.Native.Nat.{ℕ, suc, _+_, _-_, _≤_, _<_}
 use native.Mathlib.Nat.{le-of-eq, zero-add}
 use native.Mathlib.Numerals.{add-one}
 use native.Mathlib.Omega.{arith}
+use lib.Dec.{leb}
 use lib.ListN.{length, getD, take, drop, set, replicate, length-append, length-drop, length-replicate, drop-of-length-le, replicate-append-replicate}
 use lib.Seq.{drop-cons, take-append-seam, drop-append-seam, drop-drop, take-suc, length-take-le, set-at, take-all, sets, sets-eq}
+use borrow.Author.Tests.{le-leb, lt-leb}
 use borrow.Rule.Slice.PartMut.{putMid, midOf}
-use Rattle.writing.specs.Laid.{laid}
+use Rattle.writing.specs.Laid.{laid, laidIfRoom}
 
 pub laid-none : (d : List ℕ) → laid d [] ≡ d
 unfolding laid
@@ -60,3 +63,16 @@ lent-back xs u n =
 pub laid-next : (d t u D Y : List ℕ) (n : ℕ) → D ≡ laid d t → length t ≡ n → Y ≡ laid (midOf n (length D - n) D) u
     → putMid n (length D - n) D Y ≡ laid d (t ++ u)
 laid-next d t u D Y n p e q = ap (putMid n (length D - n) D) q ∙ lent-back D u n ∙ rw p (laid-on d t u n e)
+
+-- with room for the text, and without
+pub laid-room : (d t : List ℕ) → length t ≤ length d → laidIfRoom d t ≡ laid d t
+unfolding laidIfRoom
+laid-room d t h = let e : leb (length t) (length d) ≡ true = le-leb (length t) (length d) h in rw e refl
+
+pub laid-no-room : (d t : List ℕ) → length d < length t → laidIfRoom d t ≡ d
+unfolding laidIfRoom
+laid-no-room d t h = let e : leb (length t) (length d) ≡ false = lt-leb (length t) (length d) h in rw e refl
+
+-- no text leaves what was there
+pub none-laid : (d : List ℕ) → laidIfRoom d [] ≡ d
+none-laid d = laid-room d [] (omega arith) ∙ laid-none d

@@ -2,7 +2,7 @@
 ghost use mathlib.Core.Path.{_≡_};
 ghost use Prim.Native.Nat.{_≤_};
 ghost use lib.ListN.{length, replicate};
-ghost use Rattle.writing.specs.Laid.{laid};
+ghost use Rattle.writing.specs.Laid.{laid, laidIfRoom};
 
 // Copies the text. Answers its length.
 pub fn write_text(out: &mut [u8], text: &[u8]) -> usize
@@ -28,4 +28,14 @@ pub fn write_fill(out: &mut [u8], n: usize, b: u8) -> usize
         i = i + 1;
     }
     i
+}
+
+// Copies the text where there is room for it. Answers its length.
+pub fn put_text(out: &mut [u8], text: &[u8]) -> usize
+    ensures { λ r. ⌜ (r ≡ length (now (text .entry))) × (now (out .exit) ≡ laidIfRoom (now (out .entry)) (now (text .entry))) ⌝ }
+{
+    if text.len() <= out.len() {
+        write_text(out, text);
+    }
+    text.len()
 }

@@ -1,78 +1,71 @@
--- `numerals::write_digits` meets its contract. The loop's invariant: the letters from place i on are stored, and v gives those before them. Assumes nothing.
-use Prim.Native.Nat.{_/_, _≤_}
-use mathlib.Core.Path.{refl, sym}
-use native.Mathlib.Nat.{mod-lt}
+-- `numerals::write_digits` meets its contract. Assumes nothing.
+use Prim.Native.Nat.{ℕ}
+use mathlib.Core.Path.{_≡_, ap, _∙_}
 use native.Mathlib.Omega.{arith}
+use Rattle.writing.specs.Laid.{laid}
 use Rattle.numerals.specs.Digits.{digitsIn, lettersOf}
-use Rattle.numerals.proofs.Digits.{digitByte, digitNext, digits-right}
-use Rattle.writing.proofs.Backwards.{Written, written-none, written-turn, written-all}
 use borrow.Author.Needs.{needs}
 use Rattle.numerals.proofs.write_digits.Statement.{statement}
 use Rattle.numerals.proofs.write_digits.Tie as tie
 
-abbrev Inv-loop : tie.InvT-loop
-Inv-loop out₀ x base n upper v₀ i₀ out v i =
-    (i ≤ n) × Written (digitByte upper base) (digitNext base) out₀ (lettersOf upper (digitsIn base n x)) out i v
+write-places-requires : tie.Need-write-places-requires
+write-places-requires c κs = search needs
 
-abbrev μ-loop : tie.MeasureT-loop
-μ-loop out₀ x base n upper v₀ i₀ out v i = i
-
-loop-holds : tie.Need-loop-holds Inv-loop μ-loop
-loop-holds c =
-    let a = c .before .args in (
-      omega arith,
-      written-none (digitByte (a .upper) (a .base)) (digitNext (a .base)) (a .out .now) (lettersOf (a .upper) (digitsIn (a .base) (a .n) (a .x))) (a .n) (a .x) (digits-right (a .upper) (a .base) (a .n) (a .x)),
-    )
-
-sub-i : tie.Need-sub-i Inv-loop μ-loop
-sub-i c = search needs
-
-rem-digit-letter : tie.Need-rem-digit-letter Inv-loop μ-loop
-rem-digit-letter c = search needs
-
-digit-letter-requires : tie.Need-digit-letter-requires Inv-loop μ-loop
-digit-letter-requires c κs = omega (arith, mod-lt (c .before .loop .v) {m = c .before .before .before .args .base} (omega arith))
-
-slice-write-out : tie.Need-slice-write-out Inv-loop μ-loop
-slice-write-out c = search needs
-
-div-v : tie.Need-div-v Inv-loop μ-loop
-div-v c = search needs
-
-loop-less : tie.Need-loop-less Inv-loop μ-loop
-loop-less c = search needs
-
-loop-again : tie.Need-loop-again Inv-loop μ-loop
-loop-again c =
-    let l = c .before .before .loop in
-    let a = c .before .before .before .before .args in (
-      omega arith,
-      written-turn (digitByte (a .upper) (a .base)) (digitNext (a .base)) (a .out .now) (lettersOf (a .upper) (digitsIn (a .base) (a .n) (a .x))) (l .out) (l .i) (l .v) (l .v / a .base) (c .digit-letter .result) (omega arith) (omega arith)
-          (sym (c .digit-letter .ensures)) refl (l .inv .1),
-    )
-
-same-length : tie.Need-same-length Inv-loop μ-loop
+same-length : tie.Need-same-length
 same-length c = search needs
 
-returns : tie.Need-returns Inv-loop μ-loop
+returns : tie.Need-returns
 returns c =
-    let l = c .before .loop in
-    let a = c .before .before .before .args in
-    (refl, written-all (digitByte (a .upper) (a .base)) (digitNext (a .base)) (a .out .now) (lettersOf (a .upper) (digitsIn (a .base) (a .n) (a .x))) (l .out) (l .i) (l .v) (omega arith) (l .inv .1))
+    let a = c .before .before .before .before .before .before .args in
+    let e : 10 ≡ a .base = omega arith in
+    (c .before .before .write-places .ensures .0, c .before .before .write-places .ensures .1 ∙ ap (λ (b : ℕ). laid (a .out .now) (lettersOf (a .upper) (digitsIn b (a .n) (a .x)))) e)
+
+write-places-requires-2 : tie.Need-write-places-requires-2
+write-places-requires-2 c κs = search needs
+
+same-length-2 : tie.Need-same-length-2
+same-length-2 c = search needs
+
+returns-2 : tie.Need-returns-2
+returns-2 c =
+    let a = c .before .before .before .before .before .before .before .args in
+    let e : 16 ≡ a .base = omega arith in
+    (c .before .before .write-places2 .ensures .0, c .before .before .write-places2 .ensures .1 ∙ ap (λ (b : ℕ). laid (a .out .now) (lettersOf (a .upper) (digitsIn b (a .n) (a .x)))) e)
+
+write-places-requires-3 : tie.Need-write-places-requires-3
+write-places-requires-3 c κs = search needs
+
+same-length-3 : tie.Need-same-length-3
+same-length-3 c = search needs
+
+returns-3 : tie.Need-returns-3
+returns-3 c =
+    let a = c .before .before .before .before .before .before .before .before .args in
+    let e : 8 ≡ a .base = omega arith in
+    (c .before .before .write-places3 .ensures .0, c .before .before .write-places3 .ensures .1 ∙ ap (λ (b : ℕ). laid (a .out .now) (lettersOf (a .upper) (digitsIn b (a .n) (a .x)))) e)
+
+write-places-requires-4 : tie.Need-write-places-requires-4
+write-places-requires-4 c κs = search needs
+
+same-length-4 : tie.Need-same-length-4
+same-length-4 c = search needs
+
+returns-4 : tie.Need-returns-4
+returns-4 c = search needs
 
 pub write-digits-spec : {M : Type 1} → statement M
 write-digits-spec =
     tie.close
     (tie.spec
-    Inv-loop
-    μ-loop
-    loop-holds
-    sub-i
-    rem-digit-letter
-    digit-letter-requires
-    slice-write-out
-    div-v
-    loop-less
-    loop-again
+    write-places-requires
     same-length
-    returns)
+    returns
+    write-places-requires-2
+    same-length-2
+    returns-2
+    write-places-requires-3
+    same-length-3
+    returns-3
+    write-places-requires-4
+    same-length-4
+    returns-4)

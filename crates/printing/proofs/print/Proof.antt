@@ -1,14 +1,11 @@
 -- `printing::print` meets its contract. Assumes nothing.
-use Prim.Native.Nat.{ℕ, _+_, _-_}
 use mathlib.Core.Path.{_≡_, sym, ap, subst, _∙_}
-use lib.ListN.{length, take, drop}
+use lib.ListN.{length}
 use native.Mathlib.Omega.{arith}
-use Rattle.rows.specs.Row.{countOf}
-use Rattle.rows.proofs.Rows.{row-shape}
-use Rattle.printing.specs.Printing.{texts, printedText, endsFrom, within, printed, written}
+use Rattle.printing.specs.Printing.{texts, printedText, endsFrom, Filled, within, printed, written}
 use Rattle.printing.specs.Demand.{Demanded}
 use Rattle.printing.specs.declared.Outcome.{Outcome}
-use Rattle.printing.proofs.Accepted.{Fitted, fitted}
+use Rattle.printing.proofs.Accepted.{Fitted, fitted, fitted-room}
 use Rattle.printing.proofs.Demand.{demand}
 use borrow.Author.Needs.{needs}
 use Rattle.printing.proofs.print.Statement.{statement}
@@ -47,29 +44,8 @@ returns c =
       ),
     )
 
-count-of-requires : tie.Need-count-of-requires
-count-of-requires c κs = omega (arith, row-shape (c .before .before .before .before .before .before .before .before .args .row .now) (ok c .accepts .kept) .0)
-
-add-write-pieces : tie.Need-add-write-pieces
-add-write-pieces c = omega (arith, c .count-of .ensures, row-shape (c .before .before .before .before .before .before .before .before .before .args .row .now) (ok (c .before) .accepts .kept) .1)
-
-sub-write-pieces : tie.Need-sub-write-pieces
-sub-write-pieces c = search needs
-
-part-write-pieces-start : tie.Need-part-write-pieces-start
-part-write-pieces-start c = search needs
-
-part-write-pieces-end : tie.Need-part-write-pieces-end
-part-write-pieces-end c = omega (arith, c .count-of .ensures, row-shape (c .before .before .before .before .before .before .before .before .before .args .row .now) (ok (c .before) .accepts .kept) .0)
-
-write-pieces-requires : tie.Need-write-pieces-requires
-write-pieces-requires c κs =
-    let row = c .before .before .before .before .before .before .before .before .before .before .before .before .args .row .now in
-    let k = ok (c .before .before .before .before) in
-    let n : 6 + c .before .before .before .count-of .result - 6 ≡ countOf row = omega (arith, c .before .before .before .count-of .ensures) in (
-      record { short = k .accepts .short; kept = k .accepts .kept; kinds = ap (λ (m : ℕ). take m (drop 6 row)) n },
-      record { bytes = omega (arith, k .accepts .total, k .bytes); wide = omega (arith, k .accepts .total, k .wide); slots = omega (arith, k .accepts .pieces, k .slots-enough) },
-    )
+stage-requires : tie.Need-stage-requires
+stage-requires c κs = search needs
 
 same-length : tie.Need-same-length
 same-length c = search needs
@@ -79,16 +55,18 @@ same-length-2 c = search needs
 
 returns-2 : tie.Need-returns-2
 returns-2 c =
-    let a = c .before .before .before .before .before .before .before .before .before .before .before .before .before .before .before .before .before .args in
+    let a = c .before .before .before .before .before .before .before .before .before .before .before .before .before .before .before .args in
     let s = a .fmt .now in
     let row = a .row .now in
-    let g = sym (c .before .before .before .before .before .before .before .before .before .enum-told .given .1) in
-    let w = c .before .before .before .before .write-pieces .ensures in
-    let d = demand s row _ _ (ok (c .before .before .before .before .before .before .before .before .before) .accepts) (a .out .now) (a .ends .now) _ _ (w .0) (w .1) (λ i. omega (arith, c .before .before .before .before .before .before .before .before .before .before .before .before .before .before .before .shared-slice-known2 .given i)) in (
-      answered (c .before .before .before .before .before .before .before .before .before .before .before),
+    let g = sym (c .before .before .before .before .before .before .before .enum-told .given .1) in
+    let k = ok (c .before .before .before .before .before .before .before) in
+    let v = c .before .before .before .before .stage in
+    let w = subst (λ (o : Outcome). Filled s row (a .out .now) (a .ends .now) o (v .last .1 .1 .0) (v .last .1 .1 .1 .0)) (v .ensures .0 ∙ k .answer) (v .ensures .1) (fitted-room s row (a .out .now) (a .ends .now) _ _ k) in
+    let d = demand s row _ _ (k .accepts) (a .out .now) (a .ends .now) _ _ (w .0) (w .1) (λ i. omega (arith, c .before .before .before .before .before .before .before .before .before .before .before .before .before .shared-slice-known2 .given i)) in (
+      answered (c .before .before .before .before .before .before .before .before .before),
       (
         w .0 ∙ ap (λ (o : Outcome). written o (a .out .now) (printedText s row)) g,
-        (w .1 ∙ ap (λ (o : Outcome). written o (a .ends .now) (endsFrom 0 (texts s row))) g, subst (λ (o : Outcome). Demanded s row o (c .before .before .before .before .write-pieces .last .1 .1 .1 .0) (c .before .before .before .before .write-pieces .last .1 .1 .1 .1 .0)) g d),
+        (w .1 ∙ ap (λ (o : Outcome). written o (a .ends .now) (endsFrom 0 (texts s row))) g, subst (λ (o : Outcome). Demanded s row o (v .last .1 .1 .0) (v .last .1 .1 .1 .0)) g d),
       ),
     )
 
@@ -101,12 +79,7 @@ print-spec =
     enum-told
     enum-told-2
     returns
-    count-of-requires
-    add-write-pieces
-    sub-write-pieces
-    part-write-pieces-start
-    part-write-pieces-end
-    write-pieces-requires
+    stage-requires
     same-length
     same-length-2
     returns-2)

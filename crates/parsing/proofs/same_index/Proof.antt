@@ -1,0 +1,13 @@
+-- `parsing::same_index` meets its contract. Assumes nothing.
+use borrow.Author.Tests.{eq-eqb, ne-eqb}
+use Rattle.parsing.proofs.same_index.Statement.{statement}
+use Rattle.parsing.proofs.same_index.Tie as tie
+
+returns : tie.Need-returns
+returns c = simp (eq-eqb _ _ (c .if1 .taken))
+
+returns-2 : tie.Need-returns-2
+returns-2 c = simp (ne-eqb _ _ (c .if1 .left))
+
+pub same-index-spec : {M : Type 1} → statement M
+same-index-spec = tie.close (tie.spec returns returns-2)

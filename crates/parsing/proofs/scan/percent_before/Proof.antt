@@ -1,0 +1,57 @@
+-- `parsing::scan::percent_before` meets its contract. The loop's invariant: the text from i on ends where the text from the start does. Assumes nothing.
+use Prim.Native.Nat.{_+_, _-_, _≤_}
+use mathlib.Core.Path.{_≡_}
+use lib.ListN.{drop}
+use native.Mathlib.Omega.{arith}
+use Rattle.parsing.specs.Pieces.{textLength}
+use Rattle.parsing.proofs.Runs.{text-percent, text-more}
+use borrow.Author.Needs.{needs}
+use Rattle.parsing.proofs.scan.percent_before.Statement.{statement}
+use Rattle.parsing.proofs.scan.percent_before.Tie as tie
+
+abbrev Inv-loop : tie.InvT-loop
+Inv-loop fmt at stop i₀ i = (i ≤ stop) × (i + textLength (drop i fmt) ≡ at + textLength (drop at fmt))
+
+abbrev μ-loop : tie.MeasureT-loop
+μ-loop fmt at stop i₀ i = stop - i
+
+loop-holds : tie.Need-loop-holds Inv-loop μ-loop
+loop-holds c = search needs
+
+shared-slice-read-if1 : tie.Need-shared-slice-read-if1 Inv-loop μ-loop
+shared-slice-read-if1 c = search needs
+
+returns : tie.Need-returns Inv-loop μ-loop
+returns c =
+    let l = c .before .before .before .loop in
+    let s = c .before .before .before .before .args .fmt .now in
+    omega (arith, l .inv .1, text-percent s (l .i) (omega arith) (c .if1 .taken))
+
+add-i : tie.Need-add-i Inv-loop μ-loop
+add-i c = search needs
+
+loop-less : tie.Need-loop-less Inv-loop μ-loop
+loop-less c = search needs
+
+loop-again : tie.Need-loop-again Inv-loop μ-loop
+loop-again c =
+    let l = c .before .before .before .loop in
+    let s = c .before .before .before .before .args .fmt .now in
+    (omega arith, omega (arith, l .inv .1, text-more s (l .i) (omega arith) (c .if1 .left)))
+
+returns-2 : tie.Need-returns-2 Inv-loop μ-loop
+returns-2 c = omega (arith, c .before .loop .inv .1)
+
+pub percent-before-spec : {M : Type 1} → statement M
+percent-before-spec =
+    tie.close
+    (tie.spec
+    Inv-loop
+    μ-loop
+    loop-holds
+    shared-slice-read-if1
+    returns
+    add-i
+    loop-less
+    loop-again
+    returns-2)

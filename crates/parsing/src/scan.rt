@@ -1,0 +1,69 @@
+// Where a piece of fixed text ends: the place of the next `%`.
+ghost use mathlib.Core.Path.{_≡_};
+ghost use Prim.Native.Nat.{_+_, _-_, _≤_, _<_, min};
+ghost use lib.Dec.{ltb};
+ghost use lib.ListN.{length, drop};
+ghost use Rattle.parsing.specs.Pieces.{textLength};
+
+// The place of the first `%` from a place on and before stop, or stop.
+fn percent_before(fmt: &[u8], at: usize, stop: usize) -> usize
+    requires { ⌜ (at ≤ stop) × (stop ≤ length (now fmt)) ⌝ }
+    ensures { λ r. ⌜ r ≡ min (at + textLength (drop at (now (fmt .entry)))) stop ⌝ }
+{
+    let mut i = at;
+    while i < stop {
+        if fmt[i] == 37 {
+            return i;
+        }
+        i = i + 1;
+    }
+    i
+}
+
+// Whether a `%` is among the 32 bytes from a place on. The loop has no way out, so that it can be compiled to operations on blocks.
+fn is_in_block(fmt: &[u8], at: usize) -> bool
+    requires { ⌜ at + 32 ≤ length (now fmt) ⌝ }
+    ensures { λ r. ⌜ r ≡ ltb (textLength (drop at (now (fmt .entry)))) 32 ⌝ }
+{
+    let mut found = false;
+    let mut i = 0;
+    while i < 32 {
+        if fmt[at + i] == 37 {
+            found = true;
+        }
+        i = i + 1;
+    }
+    found
+}
+
+// A place from which the text ends where it ends from the place at, behind all whole blocks without `%`.
+fn skip_blocks(fmt: &[u8], at: usize) -> usize
+    requires { ⌜ at ≤ length (now fmt) ⌝ }
+    ensures { λ r. ⌜ (r ≤ length (now (fmt .entry))) × (r + textLength (drop r (now (fmt .entry))) ≡ at + textLength (drop at (now (fmt .entry)))) ⌝ }
+{
+    let mut i = at;
+    while 32 <= fmt.len() - i {
+        if is_in_block(fmt, i) {
+            return i;
+        }
+        i = i + 32;
+    }
+    i
+}
+
+// The place of the next `%` from a place on, or the format's end. Most texts are short, so that the first bytes are looked at one by one.
+pub fn text_end(fmt: &[u8], at: usize) -> usize
+    requires { ⌜ at ≤ length (now fmt) ⌝ }
+    ensures { λ r. ⌜ r ≡ at + textLength (drop at (now (fmt .entry))) ⌝ }
+{
+    let len = fmt.len();
+    let mut near = len;
+    if 8 < len - at {
+        near = at + 8;
+    }
+    let first = percent_before(fmt, at, near);
+    if first < near {
+        return first;
+    }
+    percent_before(fmt, skip_blocks(fmt, near), len)
+}

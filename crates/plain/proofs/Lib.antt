@@ -1,0 +1,4 @@
+pub mod Cases
+pub mod Next
+pub mod Texts
+pub mod Written

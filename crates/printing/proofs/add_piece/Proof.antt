@@ -1,0 +1,51 @@
+-- `printing::add_piece` meets its contract. Assumes nothing.
+use native.Mathlib.Omega.{arith}
+use Rattle.printing.proofs.Behind.{added-one}
+use borrow.Author.Needs.{needs}
+use Rattle.printing.proofs.add_piece.Statement.{statement}
+use Rattle.printing.proofs.add_piece.Tie as tie
+
+place-behind-requires : tie.Need-place-behind-requires
+place-behind-requires c κs = search needs
+
+sub-put-piece : tie.Need-sub-put-piece
+sub-put-piece c = search needs
+
+part-put-piece-start : tie.Need-part-put-piece-start
+part-put-piece-start c = search needs
+
+part-put-piece-end : tie.Need-part-put-piece-end
+part-put-piece-end c = search needs
+
+put-piece-requires : tie.Need-put-piece-requires
+put-piece-requires c κs = search needs
+
+add-size-requires : tie.Need-add-size-requires
+add-size-requires c κs = search needs
+
+same-length : tie.Need-same-length
+same-length c = search needs
+
+same-length-2 : tie.Need-same-length-2
+same-length-2 c = search needs
+
+returns : tie.Need-returns
+returns c =
+    let a = c .before .before .before .before .before .before .before .before .before .before .before .before .before .args in
+    let w = c .before .before .before .before .before .before .put-piece .ensures in
+    let z = c .before .before .add-size .ensures in
+    added-one (a .fmt .now) (a .row .now) _ (a .c) (a .tally) (a .out .now) (a .ends .now) _ (c .before .before .before .before .before .before .before .before .place-behind .ensures .0) _ (w .0) _ (w .2) _ (z .0) (z .1) _ (z .2)
+
+pub add-piece-spec : {M : Type 1} → statement M
+add-piece-spec =
+    tie.close
+    (tie.spec
+    place-behind-requires
+    sub-put-piece
+    part-put-piece-start
+    part-put-piece-end
+    put-piece-requires
+    add-size-requires
+    same-length
+    same-length-2
+    returns)

@@ -1,0 +1,90 @@
+-- `printing::add_size` meets its contract. Assumes nothing.
+use Prim.Native.Nat.{_+_, _%_}
+use mathlib.Core.Path.{_≡_, refl, sym, ap, subst, _∙_}
+use native.Mathlib.Omega.{arith}
+use lib.Seq.{set-out}
+use Rattle.pieces.specs.Texts.{SizeBelow}
+use Rattle.printing.specs.Printing.{TallyBelow, addSize, added, withEnd}
+use Rattle.printing.specs.declared.Tally.{Tally}
+use borrow.Author.Needs.{needs}
+use Rattle.printing.proofs.add_size.Statement.{statement}
+use Rattle.printing.proofs.add_size.Tie as tie
+
+enum-known-tally : tie.Need-enum-known-tally
+enum-known-tally c = search needs
+
+enum-told : tie.Need-enum-told
+enum-told c = search needs
+
+returns : tie.Need-returns
+returns c =
+    let a = c .before .before .args in
+    let g = sym (c .enum-told .given .1) in
+    (subst (λ (t : Tally). t ≡ added (a .c .at) (a .size) t) g refl, subst (TallyBelow (a .c .pieces + 1)) g tt, subst (λ (t : Tally). a .ends .now ≡ withEnd (a .c .pieces) t (a .ends .now)) g refl)
+
+enum-known-size : tie.Need-enum-known-size
+enum-known-size c = search needs
+
+add-end : tie.Need-add-end
+add-end c =
+    let p = c .before .before .before .before .before .before .pre in
+    let s = subst SizeBelow (c .before .size .given .1) (p .0) in
+    let t = subst (TallyBelow (c .before .before .before .before .before .before .args .c .pieces)) (c .before .before .before .before .tally .given .1) (p .2) in
+    omega (arith, p .1, s, t)
+
+cast-ends : tie.Need-cast-ends
+cast-ends c = search needs
+
+mul-ends : tie.Need-mul-ends
+mul-ends c = search needs
+
+slice-write-ends : tie.Need-slice-write-ends
+slice-write-ends c = search needs
+
+enum-known-size-2 : tie.Need-enum-known-size-2
+enum-known-size-2 c = search needs
+
+same-length : tie.Need-same-length
+same-length c = search needs
+
+returns-2 : tie.Need-returns-2
+returns-2 c =
+    let p = c .before .before .before .before .before .before .before .pre in
+    let s = subst SizeBelow (c .before .before .size .given .1) (p .0) in
+    let t = subst (TallyBelow (c .before .before .before .before .before .before .before .args .c .pieces)) (c .before .before .before .before .before .tally .given .1) (p .2) in
+    let a = c .before .before .before .before .before .before .before .args in
+    let g = c .before .before .before .before .before .tally .given .1 in
+    (sym (ap (added (a .c .at) (a .size)) g ∙ ap (addSize _ (a .c .at)) (c .before .before .size .given .1)), omega (arith, p .1, s, t), refl)
+
+returns-3 : tie.Need-returns-3
+returns-3 c =
+    let p = c .before .before .before .before .before .before .before .pre in
+    let s = subst SizeBelow (c .before .before .size .given .1) (p .0) in
+    let t = subst (TallyBelow (c .before .before .before .before .before .before .before .args .c .pieces)) (c .before .before .before .before .before .tally .given .1) (p .2) in
+    let a = c .before .before .before .before .before .before .before .args in
+    let g = c .before .before .before .before .before .tally .given .1 in
+    (sym (ap (added (a .c .at) (a .size)) g ∙ ap (addSize _ (a .c .at)) (c .before .before .size .given .1)), omega (arith, p .1, s, t), sym (set-out (a .ends .now) (a .c .pieces) _ (omega arith)))
+
+returns-4 : tie.Need-returns-4
+returns-4 c =
+    let a = c .before .before .before .before .before .before .args in
+    let g = c .before .before .before .before .tally .given .1 in
+    (sym (ap (added (a .c .at) (a .size)) g ∙ ap (addSize _ (a .c .at)) (c .before .size2 .given .1)), tt, refl)
+
+pub add-size-spec : {M : Type 1} → statement M
+add-size-spec =
+    tie.close
+    (tie.spec
+    enum-known-tally
+    enum-told
+    returns
+    enum-known-size
+    add-end
+    cast-ends
+    mul-ends
+    slice-write-ends
+    enum-known-size-2
+    same-length
+    returns-2
+    returns-3
+    returns-4)
