@@ -1,9 +1,12 @@
 -- The C entries. 01: "The panel's host program in C calls checking, measuring and printing on numbers and byte slices; ends pass there as 4
 -- little-endian bytes each, and up to 3 bytes left over are never written."
-use Prim.Native.Nat.{ℕ, _+_, _*_, _/_, _%_}
+use Prim.Native.Nat.{ℕ, _+_, _*_, _/_, _%_, _≤_}
+use mathlib.Core.Path.{_≡_}
 use mathlib.Core.List.{List, [], _∷_, _++_}
 use Rattle.parsing.specs.declared.Checked.{Checked}
 use Rattle.parsing.specs.declared.Checked.the-variants as C
+use lib.ListN.{length, take}
+use Rattle.printing.specs.Printing.{texts, printedText, endsFrom}
 use Rattle.printing.specs.declared.Outcome.{Outcome}
 use Rattle.printing.specs.declared.Outcome.the-variants.{Accepted, Refused}
 use Rattle.panel.specs.declared.CheckAnswer.{CheckAnswer}
@@ -34,7 +37,6 @@ endsRead (a ∷ b ∷ []) = []
 endsRead (a ∷ b ∷ c ∷ []) = []
 endsRead (a ∷ b ∷ c ∷ d ∷ rest) = (a + 256 * b + 65536 * c + 16777216 * d) ∷ endsRead rest
 
--- How many ends a call leaves: one for each piece, none where it was stopped.
-abbrev pub stored : Outcome → ℕ
-stored (Accepted length pieces) = pieces
-stored (Refused number place) = 0
+-- That a text and slots, where long enough for n bytes and k ends, begin with what is printed.
+abbrev pub Holds : List ℕ → List ℕ → ℕ → ℕ → List ℕ → List ℕ → Type 0
+Holds s row n k text slots = n ≤ length text → k ≤ length slots → (take n text ≡ printedText s row) × (take k slots ≡ endsFrom 0 (texts s row))

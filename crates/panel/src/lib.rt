@@ -2,15 +2,14 @@
 use parsing::Checked;
 use printing::Outcome;
 ghost use mathlib.Core.Path.{_≡_};
-ghost use Prim.Native.Nat.{_*_, _/_, _≤_, _<_, min};
+ghost use Prim.Native.Nat.{_*_, _/_, _≤_};
 ghost use lib.ListN.{length};
 ghost use Rattle.parsing.specs.Check.{checked};
-ghost use Rattle.rows.specs.Row.{kindsOf};
-ghost use Rattle.parsing.specs.Listed.{placed};
 ghost use Rattle.printing.specs.Printing.{texts, printedText, endsFrom, measured, printed, written};
 ghost use Rattle.printing.specs.Demand.{Demanded};
+ghost use Rattle.printing.specs.declared.Outcome.the-variants.{Accepted};
 ghost use Rattle.writing.specs.Laid.{laid};
-ghost use Rattle.panel.specs.Entries.{checkAnswer, printAnswer, endBytes, allBytes, endsRead, stored};
+ghost use Rattle.panel.specs.Entries.{checkAnswer, printAnswer, endBytes, allBytes, endsRead, Holds};
 
 // number is 0 where the format is accepted; else it is the refusal's, with its place.
 #[repr(C)]
@@ -107,50 +106,48 @@ fn store_ends(ends: &mut [u8], slots: &[u32])
     }
 }
 
-// How many ends a call leaves.
-fn stored_count(outcome: Outcome) -> usize
-    ensures { λ r. ⌜ r ≡ stored outcome ⌝ }
-{
-    match outcome {
-        Outcome::Accepted { length: _, pieces } => pieces as usize,
-        Outcome::Refused {
-            number: _,
-            place: _,
-        } => 0,
-    }
-}
-
-fn lesser(a: usize, b: usize) -> usize
-    ensures { λ r. ⌜ r ≡ min a b ⌝ }
-{
-    if a < b {
-        return a;
-    }
-    b
-}
-
-// Prints, with slots for as many ends as the format can have.
-fn print_through<'a>(
+// Prints an accepted row by a pass of its own. A format has at most 512 pieces.
+fn print_long<'a>(
     fmt: &'a [u8],
     row: &'a [u8],
     out: &mut [u8],
     ends: &mut [u8],
-    slots: &mut [u32],
-) -> PrintAnswer
-    requires { ⌜ length (placed (now fmt) (kindsOf (now row))) ≤ length (now slots) ⌝ }
-    ensures { λ r. ⌜ r ≡ printAnswer (printed (now (fmt .entry)) (now (row .entry)) (length (now (out .entry))) (length (now (ends .entry)) / 4)) ⌝ }
-    ensures { λ r. ⌜ now (out .exit) ≡ written (printed (now (fmt .entry)) (now (row .entry)) (length (now (out .entry))) (length (now (ends .entry)) / 4)) (now (out .entry)) (printedText (now (fmt .entry)) (now (row .entry))) ⌝ }
-    ensures { λ r. ⌜ now (ends .exit) ≡ written (printed (now (fmt .entry)) (now (row .entry)) (length (now (out .entry))) (length (now (ends .entry)) / 4)) (now (ends .entry)) (allBytes (endsFrom 0 (texts (now (fmt .entry)) (now (row .entry))))) ⌝ }
-    ensures { λ r. ⌜ Demanded (now (fmt .entry)) (now (row .entry)) (printed (now (fmt .entry)) (now (row .entry)) (length (now (out .entry))) (length (now (ends .entry)) / 4)) (now (out .exit)) (endsRead (now (ends .exit))) ⌝ }
+    bytes: u64,
+    pieces: u64,
+)
+    requires { ⌜ printed (now fmt) (now row) (length (now out)) (length (now ends) / 4) ≡ Accepted bytes pieces ⌝ }
+    ensures { λ r. ⌜ (now (out .exit) ≡ laid (now (out .entry)) (printedText (now (fmt .entry)) (now (row .entry)))) × (now (ends .exit) ≡ laid (now (ends .entry)) (allBytes (endsFrom 0 (texts (now (fmt .entry)) (now (row .entry)))))) ⌝ }
 {
-    let room = lesser(ends.len() / 4, slots.len());
-    let outcome = printing::print(fmt, row, out, &mut slots[..room]);
-    let n = stored_count(outcome);
-    store_ends(ends, &slots[..n]);
-    print_answer(outcome)
+    let mut slots = [0u32; 512];
+    printing::stage(fmt, row, out, &mut slots);
+    store_ends(ends, &slots[..pieces as usize]);
 }
 
-// Prints a row under a format. A format of n bytes has at most n pieces, so a short one needs few slots.
+// Prints an accepted row: from text and slots where these hold it, else by another pass.
+fn print_accepted<'a>(
+    fmt: &'a [u8],
+    row: &'a [u8],
+    out: &mut [u8],
+    ends: &mut [u8],
+    text: &[u8],
+    slots: &[u32],
+    bytes: u64,
+    pieces: u64,
+)
+    requires { ⌜ (printed (now fmt) (now row) (length (now out)) (length (now ends) / 4) ≡ Accepted bytes pieces) × (Holds (now fmt) (now row) bytes pieces (now text) (now slots)) ⌝ }
+    ensures { λ r. ⌜ (now (out .exit) ≡ laid (now (out .entry)) (printedText (now (fmt .entry)) (now (row .entry)))) × (now (ends .exit) ≡ laid (now (ends .entry)) (allBytes (endsFrom 0 (texts (now (fmt .entry)) (now (row .entry)))))) ⌝ }
+{
+    if bytes <= text.len() as u64 {
+        if pieces <= slots.len() as u64 {
+            writing::write_text(out, &text[..bytes as usize]);
+            store_ends(ends, &slots[..pieces as usize]);
+            return;
+        }
+    }
+    print_long(fmt, row, out, ends, bytes, pieces);
+}
+
+// Prints a row under a format. The pass that excludes every refusal leaves a short text and its ends ready to be copied.
 #[no_mangle]
 pub extern "C" fn panel_print<'a>(
     fmt: &'a [u8],
@@ -163,10 +160,17 @@ pub extern "C" fn panel_print<'a>(
     ensures { λ r. ⌜ now (ends .exit) ≡ written (printed (now (fmt .entry)) (now (row .entry)) (length (now (out .entry))) (length (now (ends .entry)) / 4)) (now (ends .entry)) (allBytes (endsFrom 0 (texts (now (fmt .entry)) (now (row .entry))))) ⌝ }
     ensures { λ r. ⌜ Demanded (now (fmt .entry)) (now (row .entry)) (printed (now (fmt .entry)) (now (row .entry)) (length (now (out .entry))) (length (now (ends .entry)) / 4)) (now (out .exit)) (endsRead (now (ends .exit))) ⌝ }
 {
-    if fmt.len() <= 64 {
-        let mut few = [0u32; 64];
-        return print_through(fmt, row, out, ends, &mut few);
-    }
-    let mut slots = [0u32; 512];
-    print_through(fmt, row, out, ends, &mut slots)
+    let mut text = [0u8; 256];
+    let mut slots = [0u32; 64];
+    let found = printing::stage(fmt, row, &mut text, &mut slots);
+    let answer = printing::fit(found, out.len() as u64, (ends.len() / 4) as u64);
+    let Outcome::Accepted {
+        length: bytes,
+        pieces,
+    } = answer
+    else {
+        return print_answer(answer);
+    };
+    print_accepted(fmt, row, out, ends, &text, &slots, bytes, pieces);
+    print_answer(answer)
 }

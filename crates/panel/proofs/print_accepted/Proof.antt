@@ -1,0 +1,69 @@
+-- `panel::print_accepted` meets its contract. Assumes nothing.
+use Prim.Native.Nat.{ℕ, _/_}
+use mathlib.Core.Path.{_≡_, sym, ap, _∙_}
+use mathlib.Core.List.{List}
+use lib.ListN.{length, length-take}
+use lib.Seq.{length-take-le}
+use native.Mathlib.Omega.{arith}
+use Rattle.writing.specs.Laid.{laid}
+use Rattle.printing.proofs.Accepted.{Fitted, fitted}
+use Rattle.panel.specs.Entries.{allBytes}
+use borrow.Author.Needs.{needs}
+use Rattle.panel.proofs.print_accepted.Statement.{statement}
+use Rattle.panel.proofs.print_accepted.Tie as tie
+
+-- what it means to be accepted
+ok : (c : tie.Start) → Fitted (c .args .fmt .now) (c .args .row .now) (length (c .args .out .now)) (length (c .args .ends .now) / 4) (c .args .bytes) (c .args .pieces)
+ok c = fitted (c .args .fmt .now) (c .args .row .now) (length (c .args .out .now)) (length (c .args .ends .now) / 4) (c .args .bytes) (c .args .pieces) (c .pre .0)
+
+slice-aggregate-write-text : tie.Need-slice-aggregate-write-text
+slice-aggregate-write-text c = sym (length-take-le _ _ (omega arith))
+
+write-text-requires : tie.Need-write-text-requires
+write-text-requires c κs = simp length-take (omega (arith, ok (c .before .before .before .before .before .before .before .before .before .before) .bytes))
+
+slice-aggregate-store-ends : tie.Need-slice-aggregate-store-ends
+slice-aggregate-store-ends c = sym (length-take-le _ _ (omega arith))
+
+store-ends-requires : tie.Need-store-ends-requires
+store-ends-requires c κs = simp length-take (omega (arith, ok (c .before .before .before .before .before .before .before .before .before .before .before .before .before .before .before) .slots-enough))
+
+same-length : tie.Need-same-length
+same-length c = search needs
+
+same-length-2 : tie.Need-same-length-2
+same-length-2 c = search needs
+
+returns : tie.Need-returns
+returns c =
+    let a = c .before .before .before .before .before .before .before .before .before .before .before .before .before .before .before .before .before .before .args in
+    let h = c .before .before .before .before .before .before .before .before .before .before .before .before .before .before .before .before .before .before .pre .1 (omega arith) (omega arith) in
+    (c .before .before .before .before .before .before .before .write-text .ensures .1 ∙ ap (laid (a .out .now)) (h .0), c .before .before .store-ends .ensures ∙ ap (λ (l : List ℕ). laid (a .ends .now) (allBytes l)) (h .1))
+
+print-long-requires : tie.Need-print-long-requires
+print-long-requires c κs = search needs
+
+same-length-3 : tie.Need-same-length-3
+same-length-3 c = search needs
+
+same-length-4 : tie.Need-same-length-4
+same-length-4 c = search needs
+
+returns-2 : tie.Need-returns-2
+returns-2 c = search needs
+
+pub print-accepted-spec : {M : Type 1} → statement M
+print-accepted-spec =
+    tie.close
+    (tie.spec
+    slice-aggregate-write-text
+    write-text-requires
+    slice-aggregate-store-ends
+    store-ends-requires
+    same-length
+    same-length-2
+    returns
+    print-long-requires
+    same-length-3
+    same-length-4
+    returns-2)

@@ -1,0 +1,70 @@
+-- `panel::print_long` meets its contract. Assumes nothing.
+use Prim.Native.Nat.{ℕ, _/_, _≤_}
+use mathlib.Core.Path.{_≡_, sym, ap, _∙_}
+use mathlib.Core.List.{List}
+use lib.ListN.{length, take, length-take}
+use lib.Seq.{length-take-le}
+use native.Mathlib.Omega.{arith}
+use Rattle.writing.specs.Laid.{laid}
+use Rattle.parsing.proofs.Cover.{few}
+use Rattle.rows.specs.Row.{kindsOf}
+use Rattle.printing.proofs.Accepted.{Fitted, fitted}
+use Rattle.panel.specs.Entries.{allBytes}
+use Rattle.panel.proofs.Slots.{filled-of, ends-of}
+use borrow.Author.Needs.{needs}
+use Rattle.panel.proofs.print_long.Statement.{statement}
+use Rattle.panel.proofs.print_long.Tie as tie
+
+-- what it means to be accepted
+ok : (c : tie.Start) → Fitted (c .args .fmt .now) (c .args .row .now) (length (c .args .out .now)) (length (c .args .ends .now) / 4) (c .args .bytes) (c .args .pieces)
+ok c = fitted (c .args .fmt .now) (c .args .row .now) (length (c .args .out .now)) (length (c .args .ends .now) / 4) (c .args .bytes) (c .args .pieces) (c .pre)
+
+few-pieces : (c : tie.Start) → c .args .pieces ≤ 512
+few-pieces c = omega (arith, ok c .accepts .pieces, few (c .args .fmt .now) (kindsOf (c .args .row .now)) .0)
+
+slice-aggregate-stage : tie.Need-slice-aggregate-stage
+slice-aggregate-stage c = search needs
+
+stage-requires : tie.Need-stage-requires
+stage-requires c κs = search needs
+
+array-share-prefix-slots : tie.Need-array-share-prefix-slots
+array-share-prefix-slots c =
+    let e : length (c .before .before .before .before .stage .last .1 .1 .1 .0) ≡ 512 = search needs in
+    omega (arith, e, few-pieces (c .before .before .before .before .before .before .before .before .before .before .before))
+
+slice-aggregate-store-ends : tie.Need-slice-aggregate-store-ends
+slice-aggregate-store-ends c =
+    let e : length (c .before .before .before .before .before .stage .last .1 .1 .1 .0) ≡ 512 = search needs in
+    sym (length-take-le _ _ (omega (arith, e, few-pieces (c .before .before .before .before .before .before .before .before .before .before .before .before))))
+
+store-ends-requires : tie.Need-store-ends-requires
+store-ends-requires c κs = simp length-take (omega (arith, ok (c .before .before .before .before .before .before .before .before .before .before .before .before) .slots-enough))
+
+same-length : tie.Need-same-length
+same-length c = search needs
+
+same-length-2 : tie.Need-same-length-2
+same-length-2 c = search needs
+
+returns : tie.Need-returns
+returns c =
+    let a = c .before .before .before .before .before .before .before .before .before .before .before .before .before .before .before .args in
+    let k = ok (c .before .before .before .before .before .before .before .before .before .before .before .before .before .before .before) in
+    let v = c .before .before .before .before .before .before .before .before .stage in
+    let w = filled-of (a .fmt .now) (a .row .now) _ _ _ _ k _ _ _ _ _ (v .ensures .0) (v .ensures .1) (k .bytes) (few-pieces (c .before .before .before .before .before .before .before .before .before .before .before .before .before .before .before)) in
+    let z = ends-of (a .fmt .now) (a .row .now) _ _ _ _ k _ _ _ _ _ (v .ensures .0) (v .ensures .1) (k .bytes) (few-pieces (c .before .before .before .before .before .before .before .before .before .before .before .before .before .before .before)) in
+    (w .0, c .before .before .store-ends .ensures ∙ ap (λ (l : List ℕ). laid (a .ends .now) (allBytes l)) z)
+
+pub print-long-spec : {M : Type 1} → statement M
+print-long-spec =
+    tie.close
+    (tie.spec
+    slice-aggregate-stage
+    stage-requires
+    array-share-prefix-slots
+    slice-aggregate-store-ends
+    store-ends-requires
+    same-length
+    same-length-2
+    returns)
