@@ -2,7 +2,7 @@
 use mathlib.Core.Path.{_≡_, ap, _∙_}
 use mathlib.Core.Bool.{true}
 use mathlib.Core.List.{List, [], _∷_}
-use Prim.Native.Nat.{ℕ, zero, suc, _+_, _-_, _≤_, _<_}
+use Prim.Native.Nat.{ℕ, zero, suc, _+_, _≤_, _<_}
 use native.Mathlib.Decide.{decLt}
 use native.Mathlib.Omega.{arith}
 use lib.Dec.{eqb, ltb}
@@ -29,12 +29,6 @@ text-rest (suc n) (b ∷ l) h =
 -- n bytes of the text from i on are passed
 pub text-past : (s : List ℕ) (i n : ℕ) → n ≤ textLength (drop i s) → textLength (drop i s) ≡ n + textLength (drop (i + n) s)
 text-past s i n h = text-rest n (drop i s) h ∙ ap (λ (l : List ℕ). n + textLength l) (drop-drop n i s)
-
-pub text-between : (s : List ℕ) (i j : ℕ) → i ≤ j → j ≤ i + textLength (drop i s) → j + textLength (drop j s) ≡ i + textLength (drop i s)
-text-between s i j h k =
-    let n : i + (j - i) ≡ j = omega arith in
-    let e = rw n at (text-past s i (j - i) (omega arith)) in
-    omega arith
 
 pub text-inside : (s : List ℕ) (i : ℕ) → i ≤ length s → i + textLength (drop i s) ≤ length s
 text-inside s i h = omega (arith, text-in (drop i s), length-drop i s)

@@ -51,19 +51,10 @@ fn skip_blocks(fmt: &[u8], at: usize) -> usize
     i
 }
 
-// The place of the next `%` from a place on, or the format's end. Most texts are short, so that the first bytes are looked at one by one.
+// The place of the next `%` from a place on, or the format's end.
 pub fn text_end(fmt: &[u8], at: usize) -> usize
     requires { ⌜ at ≤ length (now fmt) ⌝ }
     ensures { λ r. ⌜ r ≡ at + textLength (drop at (now (fmt .entry))) ⌝ }
 {
-    let len = fmt.len();
-    let mut near = len;
-    if 8 < len - at {
-        near = at + 8;
-    }
-    let first = percent_before(fmt, at, near);
-    if first < near {
-        return first;
-    }
-    percent_before(fmt, skip_blocks(fmt, near), len)
+    percent_before(fmt, skip_blocks(fmt, at), fmt.len())
 }

@@ -18,6 +18,7 @@ ghost use Rattle.pieces.specs.Texts.{Ready, SizeBelow};
 ghost use Rattle.plain.specs.Plain.{isLetter, isWhole, plainElement};
 ghost use Rattle.printing.specs.Printing.{Passed, TallyBelow, Filled, Added, behind, withEnd, texts, added, outcomeOf, printedText, endsFrom, measuredEnd, measured, within, printed, written};
 ghost use Rattle.printing.specs.Demand.{Demanded};
+ghost use Rattle.printing.specs.declared.Outcome.the-variants.{Refused};
 
 // The answer of a call: the text's length and the number of pieces, or a refusal with its number and place.
 pub enum Outcome {
@@ -25,10 +26,19 @@ pub enum Outcome {
     Refused { number: u8, place: usize },
 }
 
-// What the first pass adds up: the length of the pieces so far, or the first of them that is not printed.
+// What a pass adds up: the length of the pieces so far, or the first of them that is not printed.
 pub enum Tally {
     Length(u64),
     Stops { number: u8, place: usize },
+}
+
+fn refused(number: u8, place: usize) -> Outcome
+    ensures { λ r. ⌜ r ≡ Refused number place ⌝ }
+{
+    Outcome::Refused {
+        number: number,
+        place: place,
+    }
 }
 
 // Where the next piece goes in so much room.
@@ -182,10 +192,7 @@ fn lay_pieces<'a>(
                 c = next;
             }
             Step::Refused { number, place } => {
-                return Outcome::Refused {
-                    number: number,
-                    place: place,
-                };
+                return refused(number, place);
             }
             Step::End => {
                 return outcome_of(tally, c.pieces);
@@ -193,10 +200,7 @@ fn lay_pieces<'a>(
         }
         left = left - 1;
     }
-    Outcome::Refused {
-        number: 13,
-        place: c.at,
-    }
+    refused(13, c.at)
 }
 
 // The outcome of measuring, and the text and its ends where these have room; what is left otherwise is not said.

@@ -12,6 +12,8 @@ use Rattle.parsing.specs.declared.Step.the-variants.{Found}
 use Rattle.parsing.proofs.Progress.{advanced}
 use Rattle.plain.specs.Plain.{isFixed, isPlain, plainElement}
 use Rattle.plain.proofs.Next.{fixed-next, fixed-inside, plain-next, plain-inside, plain-whole}
+use Rattle.printing.specs.Printing.{Filled}
+use Rattle.printing.specs.declared.Outcome.{Outcome}
 use Rattle.printing.proofs.Reached.{past-end}
 use Rattle.printing.proofs.Laying.{Laying, laying-start, laying-out, laying-refused, laying-end, next-ready, laying-next}
 use borrow.Author.Needs.{needs}
@@ -148,14 +150,19 @@ add-piece-requires c κs =
 enum-known-step-2 : tie.Need-enum-known-step-2 Inv-loop μ-loop
 enum-known-step-2 c = search needs
 
+refused-requires : tie.Need-refused-requires Inv-loop μ-loop
+refused-requires c κs = search needs
+
 same-length-3 : tie.Need-same-length-3 Inv-loop μ-loop
-same-length-3 c = c .before .before .before .before .before .before .before .before .before .before .loop .inv .as-long
+same-length-3 c = c .before .before .before .before .before .before .before .before .before .before .before .loop .inv .as-long
 
 same-length-4 : tie.Need-same-length-4 Inv-loop μ-loop
-same-length-4 c = c .before .before .before .before .before .before .before .before .before .before .loop .inv .as-many
+same-length-4 c = c .before .before .before .before .before .before .before .before .before .before .before .loop .inv .as-many
 
 returns-2 : tie.Need-returns-2 Inv-loop μ-loop
-returns-2 c = (laying-refused (c .before .before .before .before .before .before .before .before .before .before .before .before .before .before .before .before .before .args .fmt .now) (c .before .before .before .before .before .before .before .before .before .before .before .before .before .before .before .before .before .args .row .now) (c .before .before .before .before .before .before .before .before .before .before .before .before .before .before .before .before .before .args .kinds .now) (c .before .before .before .before .before .before .before .before .before .before .before .before .before .before .before .before .before .args .out .now) (c .before .before .before .before .before .before .before .before .before .before .before .before .before .before .before .before .before .args .ends .now) (c .before .before .before .before .before .before .before .before .before .before .before .before .before .before .before .before .before .pre) (c .before .before .before .before .before .before .before .before .before .before .loop .left) (c .before .before .before .before .before .before .before .before .before .before .loop .c) (c .before .before .before .before .before .before .before .before .before .before .loop .tally) (c .before .before .before .before .before .before .before .before .before .before .loop .out) (c .before .before .before .before .before .before .before .before .before .before .loop .ends) (c .before .before .before .before .before .before .before .before .before .before .loop .inv) (omega arith) _ _ (sym (c .before .before .before .next-piece .ensures) ∙ c .before .step2 .given .1), tt)
+returns-2 c =
+    let q = c .refused .ensures in
+    (q ∙ laying-refused (c .before .before .before .before .before .before .before .before .before .before .before .before .before .before .before .before .before .before .args .fmt .now) (c .before .before .before .before .before .before .before .before .before .before .before .before .before .before .before .before .before .before .args .row .now) (c .before .before .before .before .before .before .before .before .before .before .before .before .before .before .before .before .before .before .args .kinds .now) (c .before .before .before .before .before .before .before .before .before .before .before .before .before .before .before .before .before .before .args .out .now) (c .before .before .before .before .before .before .before .before .before .before .before .before .before .before .before .before .before .before .args .ends .now) (c .before .before .before .before .before .before .before .before .before .before .before .before .before .before .before .before .before .before .pre) (c .before .before .before .before .before .before .before .before .before .before .before .loop .left) (c .before .before .before .before .before .before .before .before .before .before .before .loop .c) (c .before .before .before .before .before .before .before .before .before .before .before .loop .tally) (c .before .before .before .before .before .before .before .before .before .before .before .loop .out) (c .before .before .before .before .before .before .before .before .before .before .before .loop .ends) (c .before .before .before .before .before .before .before .before .before .before .before .loop .inv) (omega arith) _ _ (sym (c .before .before .before .before .next-piece .ensures) ∙ c .before .before .step2 .given .1), subst (λ (o : Outcome). Filled (c .before .before .before .before .before .before .before .before .before .before .before .before .before .before .before .before .before .before .args .fmt .now) (c .before .before .before .before .before .before .before .before .before .before .before .before .before .before .before .before .before .before .args .row .now) (c .before .before .before .before .before .before .before .before .before .before .before .before .before .before .before .before .before .before .args .out .now) (c .before .before .before .before .before .before .before .before .before .before .before .before .before .before .before .before .before .before .args .ends .now) o (c .before .before .before .before .before .before .before .before .before .before .before .loop .out) (c .before .before .before .before .before .before .before .before .before .before .before .loop .ends)) (sym q) tt)
 
 enum-told : tie.Need-enum-told Inv-loop μ-loop
 enum-told c = search needs
@@ -181,14 +188,19 @@ loop-less-3 c = search needs
 loop-again-3 : tie.Need-loop-again-3 Inv-loop μ-loop
 loop-again-3 c = laying-next (c .before .before .before .before .before .before .before .before .before .before .before .before .before .before .before .before .before .before .before .before .before .before .before .before .args .fmt .now) (c .before .before .before .before .before .before .before .before .before .before .before .before .before .before .before .before .before .before .before .before .before .before .before .before .args .row .now) (c .before .before .before .before .before .before .before .before .before .before .before .before .before .before .before .before .before .before .before .before .before .before .before .before .args .kinds .now) (c .before .before .before .before .before .before .before .before .before .before .before .before .before .before .before .before .before .before .before .before .before .before .before .before .args .out .now) (c .before .before .before .before .before .before .before .before .before .before .before .before .before .before .before .before .before .before .before .before .before .before .before .before .args .ends .now) (c .before .before .before .before .before .before .before .before .before .before .before .before .before .before .before .before .before .before .before .before .before .before .before .before .pre) (c .before .before .before .before .before .before .before .before .before .before .before .before .before .before .before .before .before .loop .left) (c .before .before .before .before .before .before .before .before .before .before .before .before .before .before .before .before .before .loop .c) (c .before .before .before .before .before .before .before .before .before .before .before .before .before .before .before .before .before .loop .tally) (c .before .before .before .before .before .before .before .before .before .before .before .before .before .before .before .before .before .loop .out) (c .before .before .before .before .before .before .before .before .before .before .before .before .before .before .before .before .before .loop .ends) (c .before .before .before .before .before .before .before .before .before .before .before .before .before .before .before .before .before .loop .inv) (omega arith) _ _ (found (c .before .before .before .before .before .before .before)) _ _ _ (c .before .before .before .before .add-piece .ensures) (search needs) (search needs)
 
+refused-requires-2 : tie.Need-refused-requires-2 Inv-loop μ-loop
+refused-requires-2 c κs = search needs
+
 same-length-7 : tie.Need-same-length-7 Inv-loop μ-loop
-same-length-7 c = c .before .loop .inv .as-long
+same-length-7 c = c .before .before .loop .inv .as-long
 
 same-length-8 : tie.Need-same-length-8 Inv-loop μ-loop
-same-length-8 c = c .before .loop .inv .as-many
+same-length-8 c = c .before .before .loop .inv .as-many
 
 returns-4 : tie.Need-returns-4 Inv-loop μ-loop
-returns-4 c = (laying-out (c .before .before .before .before .before .before .before .before .args .fmt .now) (c .before .before .before .before .before .before .before .before .args .row .now) (c .before .before .before .before .before .before .before .before .args .kinds .now) (c .before .before .before .before .before .before .before .before .args .out .now) (c .before .before .before .before .before .before .before .before .args .ends .now) (c .before .before .before .before .before .before .before .before .pre) (c .before .loop .left) (c .before .loop .c) (c .before .loop .tally) (c .before .loop .out) (c .before .loop .ends) (c .before .loop .inv) (omega arith), tt)
+returns-4 c =
+    let q = c .refused2 .ensures in
+    (q ∙ laying-out (c .before .before .before .before .before .before .before .before .before .args .fmt .now) (c .before .before .before .before .before .before .before .before .before .args .row .now) (c .before .before .before .before .before .before .before .before .before .args .kinds .now) (c .before .before .before .before .before .before .before .before .before .args .out .now) (c .before .before .before .before .before .before .before .before .before .args .ends .now) (c .before .before .before .before .before .before .before .before .before .pre) (c .before .before .loop .left) (c .before .before .loop .c) (c .before .before .loop .tally) (c .before .before .loop .out) (c .before .before .loop .ends) (c .before .before .loop .inv) (omega arith), subst (λ (o : Outcome). Filled (c .before .before .before .before .before .before .before .before .before .args .fmt .now) (c .before .before .before .before .before .before .before .before .before .args .row .now) (c .before .before .before .before .before .before .before .before .before .args .out .now) (c .before .before .before .before .before .before .before .before .before .args .ends .now) o (c .before .before .loop .out) (c .before .before .loop .ends)) (sym q) tt)
 
 pub lay-pieces-spec : {M : Type 1} → statement M
 lay-pieces-spec =
@@ -223,6 +235,7 @@ lay-pieces-spec =
     enum-known-step
     add-piece-requires
     enum-known-step-2
+    refused-requires
     same-length-3
     same-length-4
     returns-2
@@ -234,6 +247,7 @@ lay-pieces-spec =
     sub-left-3
     loop-less-3
     loop-again-3
+    refused-requires-2
     same-length-7
     same-length-8
     returns-4)
