@@ -25,6 +25,7 @@ int main(int argc, char **argv)
     try_known();
     try_limits();
     try_null_pointers();
+    try_copied();
     try_random(seed, 10000);
     try_coverage();
     try_long_texts();

@@ -18,6 +18,9 @@ void try_known(void);
 void try_limits(void);
 void try_null_pointers(void);
 
+/* copied.c: texts and pieces about as many as are copied. */
+void try_copied(void);
+
 /* long.c: texts about 4,294,967,295 bytes long. */
 void try_long_texts(void);
 
