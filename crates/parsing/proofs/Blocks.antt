@@ -1,4 +1,4 @@
--- Text without `%`: where it goes on behind some of its bytes, that it ends inside the format, and whether a `%` is among the first bytes from a place on. Assumes nothing.
+-- Text without `%`: where it goes on behind some of its bytes, and whether a `%` is among the first bytes from a place on. Assumes nothing.
 use mathlib.Core.Path.{_≡_, ap, _∙_}
 use mathlib.Core.Bool.{true}
 use mathlib.Core.List.{List, [], _∷_}
@@ -6,13 +6,12 @@ use Prim.Native.Nat.{ℕ, zero, suc, _+_, _≤_, _<_}
 use native.Mathlib.Decide.{decLt}
 use native.Mathlib.Omega.{arith}
 use lib.Dec.{eqb, ltb}
-use lib.ListN.{length, getD, drop, length-drop}
+use lib.ListN.{length, getD, drop}
 use lib.Seq.{drop-drop}
 use borrow.Author.Tests.{lt-ltb, le-ltb}
 use Rattle.writing.proofs.Choose.{by-test}
 use Rattle.parsing.specs.Pieces.{textLength}
 use Rattle.parsing.proofs.Runs.{text-percent, text-more}
-use Rattle.parsing.proofs.Progress.{text-in}
 
 text-rest : (n : ℕ) (l : List ℕ) → n ≤ textLength l → textLength l ≡ n + textLength (drop n l)
 unfolding textLength
@@ -29,9 +28,6 @@ text-rest (suc n) (b ∷ l) h =
 -- n bytes of the text from i on are passed
 pub text-past : (s : List ℕ) (i n : ℕ) → n ≤ textLength (drop i s) → textLength (drop i s) ≡ n + textLength (drop (i + n) s)
 text-past s i n h = text-rest n (drop i s) h ∙ ap (λ (l : List ℕ). n + textLength l) (drop-drop n i s)
-
-pub text-inside : (s : List ℕ) (i : ℕ) → i ≤ length s → i + textLength (drop i s) ≤ length s
-text-inside s i h = omega (arith, text-in (drop i s), length-drop i s)
 
 -- the byte i of a block from a place on: a `%`, or another
 module _ (s : List ℕ) (at i : ℕ) (h : at + i < length s) where

@@ -28,6 +28,10 @@ pub digit-byte : (b : ℕ) → 49 ≤ b → b ≤ 57 → beginsParam false b ≡
 digit-byte b h k = simp (le-leb 48 b (omega arith), le-leb b 57 k, ne-eqb b 48 (λ e. omega arith))
 
 module _ (s : List ℕ) (i : ℕ) where
+  pub text-ends : length s ≤ i → textLength (drop i s) ≡ 0
+  unfolding textLength
+  text-ends h = simp (no-byte s i h)
+
   pub text-percent : i < length s → getD s i 0 ≡ 37 → textLength (drop i s) ≡ 0
   unfolding textLength
   text-percent h e = simp (byte-at s i h, eq-eqb (getD s i 0) 37 e)

@@ -1,17 +1,17 @@
 // Where a piece of fixed text ends: the place of the next `%`.
 ghost use mathlib.Core.Path.{_≡_};
-ghost use Prim.Native.Nat.{_+_, _-_, _≤_, _<_, min};
+ghost use Prim.Native.Nat.{_+_, _≤_};
 ghost use lib.Dec.{ltb};
 ghost use lib.ListN.{length, drop};
 ghost use Rattle.parsing.specs.Pieces.{textLength};
 
-// The place of the first `%` from a place on and before stop, or stop.
-fn percent_before(fmt: &[u8], at: usize, stop: usize) -> usize
-    requires { ⌜ (at ≤ stop) × (stop ≤ length (now fmt)) ⌝ }
-    ensures { λ r. ⌜ r ≡ min (at + textLength (drop at (now (fmt .entry)))) stop ⌝ }
+// The place of the next `%` from a place on, or the format's end, byte by byte.
+fn next_percent(fmt: &[u8], at: usize) -> usize
+    requires { ⌜ at ≤ length (now fmt) ⌝ }
+    ensures { λ r. ⌜ r ≡ at + textLength (drop at (now (fmt .entry))) ⌝ }
 {
     let mut i = at;
-    while i < stop {
+    while i < fmt.len() {
         if fmt[i] == 37 {
             return i;
         }
@@ -36,7 +36,7 @@ fn is_in_block(fmt: &[u8], at: usize) -> bool
     found
 }
 
-// A place from which the text ends where it ends from the place at, behind all whole blocks without `%`.
+// A place from which the text ends where it ends from the place at. How far it lies is a matter of speed alone: behind all whole blocks without `%`.
 fn skip_blocks(fmt: &[u8], at: usize) -> usize
     requires { ⌜ at ≤ length (now fmt) ⌝ }
     ensures { λ r. ⌜ (r ≤ length (now (fmt .entry))) × (r + textLength (drop r (now (fmt .entry))) ≡ at + textLength (drop at (now (fmt .entry)))) ⌝ }
@@ -51,10 +51,10 @@ fn skip_blocks(fmt: &[u8], at: usize) -> usize
     i
 }
 
-// The place of the next `%` from a place on, or the format's end.
+// The same, with whole blocks first.
 pub fn text_end(fmt: &[u8], at: usize) -> usize
     requires { ⌜ at ≤ length (now fmt) ⌝ }
     ensures { λ r. ⌜ r ≡ at + textLength (drop at (now (fmt .entry))) ⌝ }
 {
-    percent_before(fmt, skip_blocks(fmt, at), fmt.len())
+    next_percent(fmt, skip_blocks(fmt, at))
 }

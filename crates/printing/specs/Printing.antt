@@ -125,7 +125,7 @@ abbrev pub Filled : List ℕ → List ℕ → List ℕ → List ℕ → Outcome 
 Filled s row d e (Accepted n k) out ends = Room s row d e → (out ≡ laid d (printedText s row)) × (ends ≡ laid e (endsFrom 0 (texts s row)))
 Filled s row d e (Refused number place) out ends = Unit {0}
 
--- Where the next piece goes: behind the length so far, or nowhere.
+-- For the steps of that pass; nothing above speaks of these. Where the next piece goes: behind the length so far, or nowhere.
 abbrev pub behind : Tally → ℕ → ℕ
 behind (Length n) room = min n room
 behind (Stops number place) room = room

@@ -1,22 +1,22 @@
--- `parsing::scan::percent_before` meets its contract. The loop's invariant: the text from i on ends where the text from the start does. Assumes nothing.
-use Prim.Native.Nat.{_+_, _-_, _≤_}
-use mathlib.Core.Path.{_≡_}
-use lib.ListN.{drop}
+-- `parsing::scan::next_percent` meets its contract. The loop's invariant: the text from i on ends where the text from the start does. Assumes nothing.
+use Prim.Native.Nat.{_+_, _-_}
+use mathlib.Core.Path.{_≡_, refl}
+use lib.ListN.{length, drop}
 use native.Mathlib.Omega.{arith}
 use Rattle.parsing.specs.Pieces.{textLength}
-use Rattle.parsing.proofs.Runs.{text-percent, text-more}
+use Rattle.parsing.proofs.Runs.{text-ends, text-percent, text-more}
 use borrow.Author.Needs.{needs}
-use Rattle.parsing.proofs.scan.percent_before.Statement.{statement}
-use Rattle.parsing.proofs.scan.percent_before.Tie as tie
+use Rattle.parsing.proofs.scan.next_percent.Statement.{statement}
+use Rattle.parsing.proofs.scan.next_percent.Tie as tie
 
 abbrev Inv-loop : tie.InvT-loop
-Inv-loop fmt at stop i₀ i = (i ≤ stop) × (i + textLength (drop i fmt) ≡ at + textLength (drop at fmt))
+Inv-loop fmt at i₀ i = i + textLength (drop i fmt) ≡ at + textLength (drop at fmt)
 
 abbrev μ-loop : tie.MeasureT-loop
-μ-loop fmt at stop i₀ i = stop - i
+μ-loop fmt at i₀ i = length fmt - i
 
 loop-holds : tie.Need-loop-holds Inv-loop μ-loop
-loop-holds c = search needs
+loop-holds c = refl
 
 shared-slice-read-if1 : tie.Need-shared-slice-read-if1 Inv-loop μ-loop
 shared-slice-read-if1 c = search needs
@@ -25,7 +25,7 @@ returns : tie.Need-returns Inv-loop μ-loop
 returns c =
     let l = c .before .before .before .loop in
     let s = c .before .before .before .before .args .fmt .now in
-    omega (arith, l .inv .1, text-percent s (l .i) (omega arith) (c .if1 .taken))
+    omega (arith, l .inv, text-percent s (l .i) (omega arith) (c .if1 .taken))
 
 add-i : tie.Need-add-i Inv-loop μ-loop
 add-i c = search needs
@@ -37,13 +37,16 @@ loop-again : tie.Need-loop-again Inv-loop μ-loop
 loop-again c =
     let l = c .before .before .before .loop in
     let s = c .before .before .before .before .args .fmt .now in
-    (omega arith, omega (arith, l .inv .1, text-more s (l .i) (omega arith) (c .if1 .left)))
+    omega (arith, l .inv, text-more s (l .i) (omega arith) (c .if1 .left))
 
 returns-2 : tie.Need-returns-2 Inv-loop μ-loop
-returns-2 c = omega (arith, c .before .loop .inv .1)
+returns-2 c =
+    let l = c .before .loop in
+    let s = c .before .before .args .fmt .now in
+    omega (arith, l .inv, text-ends s (l .i) (omega arith))
 
-pub percent-before-spec : {M : Type 1} → statement M
-percent-before-spec =
+pub next-percent-spec : {M : Type 1} → statement M
+next-percent-spec =
     tie.close
     (tie.spec
     Inv-loop
