@@ -105,7 +105,7 @@ fn format_boolean(e: Element, value: u64) -> Planned
 }
 
 // How many bytes of a text are left at a precision.
-fn cut_text(precision: NumericParam, part: &[u8]) -> usize
+pub fn cut_text(precision: NumericParam, part: &[u8]) -> usize
     ensures { λ r. ⌜ r ≡ cutPart precision (now (part .entry)) ⌝ }
 {
     match precision {

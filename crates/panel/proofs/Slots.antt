@@ -1,7 +1,7 @@
 -- What a pass leaves in slots, and ends as bytes read again. Assumes nothing.
 use mathlib.Core.Path.{_≡_, refl, sym, ap, subst, _∙_}
 use mathlib.Core.List.{List, _++_}
-use Prim.Native.Nat.{ℕ, suc, _^_, _≤_, _<_}
+use Prim.Native.Nat.{ℕ, suc, _/_, _^_, _≤_, _<_}
 use native.Mathlib.Omega.{arith}
 use lib.ListN.{length, getD, take, drop}
 use lib.Seq.{take-at, drop-at}
@@ -17,7 +17,8 @@ use Rattle.printing.proofs.Joined.{ends-length, nth-end, joined-part}
 use Rattle.printing.proofs.Tallies.{texts-length}
 use Rattle.printing.proofs.Accepted.{Fitted, fitted}
 use Rattle.printing.proofs.Demand.{demand}
-use Rattle.panel.specs.Entries.{allBytes, endsRead, Holds}
+use Rattle.panel.specs.Entries.{printAnswer, allBytes, endsRead, Holds, Prints}
+use Rattle.panel.specs.declared.PrintAnswer.{PrintAnswer}
 use Rattle.panel.proofs.Ends.{read-again}
 
 -- bytes over the start of e, read as ends, are those ends and what is read behind them
@@ -64,3 +65,15 @@ module _ (s row : List ℕ) where
       let E = endsFrom 0 (texts s row) in
       demand s row n k (f .accepts) d (E ++ endsRead (drop (length (allBytes E)) e)) out (endsRead (laid e (allBytes E))) h (read-over E e (small room m n k f)) bytes
   demanded room m (Refused number place) q bytes out d e h = tt
+
+  -- what the entry says of a call that prints
+  pub prints : (d e : List ℕ) (o : Outcome) (out ends : List ℕ) → Prints s row d e o out ends → AllBytes row → (a : PrintAnswer) → a ≡ printAnswer o
+      → (a ≡ printAnswer (printed s row (length d) (length e / 4)))
+      × ((out ≡ written (printed s row (length d) (length e / 4)) d (printedText s row))
+      × ((ends ≡ written (printed s row (length d) (length e / 4)) e (allBytes (endsFrom 0 (texts s row))))
+      × Demanded s row (printed s row (length d) (length e / 4)) out (endsRead ends)))
+  prints d e o out ends w bytes a q =
+      let x = w .answer in
+      let y = w .bytes ∙ ap (λ (o : Outcome). written o d (printedText s row)) x in
+      let z = w .slots ∙ ap (λ (o : Outcome). written o e (allBytes (endsFrom 0 (texts s row)))) x in
+      (q ∙ ap printAnswer x, (y, (z, subst (λ (l : List ℕ). Demanded s row (printed s row (length d) (length e / 4)) out (endsRead l)) (sym z) (demanded (length d) (length e / 4) _ refl bytes out d e y))))

@@ -6,7 +6,7 @@ use mathlib.Core.List.{List, [], _∷_, _++_}
 use Rattle.parsing.specs.declared.Checked.{Checked}
 use Rattle.parsing.specs.declared.Checked.the-variants as C
 use lib.ListN.{length, take}
-use Rattle.printing.specs.Printing.{texts, printedText, endsFrom}
+use Rattle.printing.specs.Printing.{texts, printedText, endsFrom, printed, written}
 use Rattle.printing.specs.declared.Outcome.{Outcome}
 use Rattle.printing.specs.declared.Outcome.the-variants.{Accepted, Refused}
 use Rattle.panel.specs.declared.CheckAnswer.{CheckAnswer}
@@ -40,3 +40,9 @@ endsRead (a ∷ b ∷ c ∷ d ∷ rest) = (a + 256 * b + 65536 * c + 16777216 * 
 -- That a text and slots, where long enough for n bytes and k ends, begin with what is printed.
 abbrev pub Holds : List ℕ → List ℕ → ℕ → ℕ → List ℕ → List ℕ → Type 0
 Holds s row n k text slots = n ≤ length text → k ≤ length slots → (take n text ≡ printedText s row) × (take k slots ≡ endsFrom 0 (texts s row))
+
+-- What a call of printing answers, and leaves in d and in the bytes e of the ends.
+pub record Prints (s row d e : List ℕ) (o : Outcome) (out ends : List ℕ) : Type 0 where
+  pub answer : o ≡ printed s row (length d) (length e / 4)
+  pub bytes : out ≡ written o d (printedText s row)
+  pub slots : ends ≡ written o e (allBytes (endsFrom 0 (texts s row)))

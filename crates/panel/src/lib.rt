@@ -1,7 +1,9 @@
 // The panel's C entries: checking, measuring and printing on numbers and byte slices. panel.h has their meaning for C.
 use parsing::Checked;
 use printing::Outcome;
+use rows::RowRead;
 ghost use mathlib.Core.Path.{_≡_};
+ghost use mathlib.Core.Bool.{true};
 ghost use Prim.Native.Nat.{_*_, _/_, _≤_};
 ghost use lib.ListN.{length};
 ghost use Rattle.parsing.specs.Check.{checked};
@@ -9,7 +11,8 @@ ghost use Rattle.printing.specs.Printing.{texts, printedText, endsFrom, measure
 ghost use Rattle.printing.specs.Demand.{Demanded};
 ghost use Rattle.printing.specs.declared.Outcome.the-variants.{Accepted};
 ghost use Rattle.writing.specs.Laid.{laid};
-ghost use Rattle.panel.specs.Entries.{checkAnswer, printAnswer, endBytes, allBytes, endsRead, Holds};
+ghost use Rattle.texts.specs.TextColumns.{isOwnText};
+ghost use Rattle.panel.specs.Entries.{checkAnswer, printAnswer, endBytes, allBytes, endsRead, Holds, Prints};
 
 // number is 0 where the format is accepted; else it is the refusal's, with its place.
 #[repr(C)]
@@ -147,7 +150,53 @@ fn print_accepted<'a>(
     print_long(fmt, row, out, ends, bytes, pieces);
 }
 
-// Prints a row under a format. The pass that excludes every refusal leaves a short text and its ends ready to be copied.
+// Prints a format that is text alone: one piece, copied.
+fn print_own<'a>(fmt: &'a [u8], row: &'a [u8], out: &mut [u8], ends: &mut [u8]) -> Outcome
+    requires { ⌜ isOwnText (now fmt) ≡ true ⌝ }
+    ensures { λ r. ⌜ Prints (now (fmt .entry)) (now (row .entry)) (now (out .entry)) (now (ends .entry)) r (now (out .exit)) (now (ends .exit)) ⌝ }
+{
+    let RowRead::Row { count: _ } = rows::read_row(&row[0..]) else {
+        return Outcome::Refused {
+            number: 14,
+            place: 0,
+        };
+    };
+    let n = fmt.len();
+    let found = Outcome::Accepted {
+        length: n as u64,
+        pieces: 1,
+    };
+    let answer = printing::fit(found, out.len() as u64, (ends.len() / 4) as u64);
+    if let Outcome::Accepted {
+        length: _,
+        pieces: _,
+    } = answer {
+        writing::write_text(out, fmt);
+        put_end(ends, n as u32);
+    }
+    answer
+}
+
+// Prints any format. The pass that excludes every refusal leaves a short text and its ends ready to be copied.
+fn print_staged<'a>(fmt: &'a [u8], row: &'a [u8], out: &mut [u8], ends: &mut [u8]) -> Outcome
+    ensures { λ r. ⌜ Prints (now (fmt .entry)) (now (row .entry)) (now (out .entry)) (now (ends .entry)) r (now (out .exit)) (now (ends .exit)) ⌝ }
+{
+    let mut text = [0u8; 256];
+    let mut slots = [0u32; 64];
+    let found = printing::stage(fmt, row, &mut text, &mut slots);
+    let answer = printing::fit(found, out.len() as u64, (ends.len() / 4) as u64);
+    let Outcome::Accepted {
+        length: bytes,
+        pieces,
+    } = answer
+    else {
+        return answer;
+    };
+    print_accepted(fmt, row, out, ends, &text, &slots, bytes, pieces);
+    answer
+}
+
+// Prints a row under a format. A format that is text alone is copied at once.
 #[no_mangle]
 pub extern "C" fn panel_print<'a>(
     fmt: &'a [u8],
@@ -160,17 +209,8 @@ pub extern "C" fn panel_print<'a>(
     ensures { λ r. ⌜ now (ends .exit) ≡ written (printed (now (fmt .entry)) (now (row .entry)) (length (now (out .entry))) (length (now (ends .entry)) / 4)) (now (ends .entry)) (allBytes (endsFrom 0 (texts (now (fmt .entry)) (now (row .entry))))) ⌝ }
     ensures { λ r. ⌜ Demanded (now (fmt .entry)) (now (row .entry)) (printed (now (fmt .entry)) (now (row .entry)) (length (now (out .entry))) (length (now (ends .entry)) / 4)) (now (out .exit)) (endsRead (now (ends .exit))) ⌝ }
 {
-    let mut text = [0u8; 256];
-    let mut slots = [0u32; 64];
-    let found = printing::stage(fmt, row, &mut text, &mut slots);
-    let answer = printing::fit(found, out.len() as u64, (ends.len() / 4) as u64);
-    let Outcome::Accepted {
-        length: bytes,
-        pieces,
-    } = answer
-    else {
-        return print_answer(answer);
-    };
-    print_accepted(fmt, row, out, ends, &text, &slots, bytes, pieces);
-    print_answer(answer)
+    if texts::is_own_text(fmt) {
+        return print_answer(print_own(fmt, row, out, ends));
+    }
+    print_answer(print_staged(fmt, row, out, ends))
 }

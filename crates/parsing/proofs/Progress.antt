@@ -39,7 +39,7 @@ StepIn len c (Found p n) = Advanced len c n
 StepIn len c (Refused number place) = place ≡ c .at
 StepIn len c End = len ≤ c .at
 
-text-in : (l : List ℕ) → textLength l ≤ length l
+pub text-in : (l : List ℕ) → textLength l ≤ length l
 unfolding textLength
 text-in [] = omega arith
 text-in (b ∷ l) = by-test (λ (n : ℕ). n ≤ length (b ∷ l)) (eqb b 37) _ _ (λ _. omega arith) (λ _. more (text-in l))

@@ -61,7 +61,7 @@ pub enum Checked {
 }
 
 // Whether the byte at a place is b.
-fn is_byte(fmt: &[u8], at: usize, b: u8) -> bool
+pub fn is_byte(fmt: &[u8], at: usize, b: u8) -> bool
     ensures { λ r. ⌜ r ≡ beginsWith b (drop at (now (fmt .entry))) ⌝ }
 {
     if at < fmt.len() {
@@ -276,13 +276,10 @@ pub fn next_piece(fmt: &[u8], kinds: &[u8], c: Cursor) -> Step
     if fmt[at] == 37 {
         return take_percent(fmt, kinds, c);
     }
-    let end = scan::text_end(fmt, at);
+    let n = scan::text_len(&fmt[at..]);
     Step::Found {
-        piece: Piece::Fixed {
-            start: at,
-            len: end - at,
-        },
-        next: passed_by(c, end),
+        piece: Piece::Fixed { start: at, len: n },
+        next: passed_by(c, at + n),
     }
 }
 

@@ -1,18 +1,18 @@
-// Where a piece of fixed text ends: the place of the next `%`.
+// Where a piece of fixed text ends: before the next `%`.
 ghost use mathlib.Core.Path.{_≡_};
 ghost use Prim.Native.Nat.{_+_, _≤_};
 ghost use lib.Dec.{ltb};
 ghost use lib.ListN.{length, drop};
 ghost use Rattle.parsing.specs.Pieces.{textLength};
 
-// The place of the next `%` from a place on, or the format's end, byte by byte.
-fn next_percent(fmt: &[u8], at: usize) -> usize
-    requires { ⌜ at ≤ length (now fmt) ⌝ }
-    ensures { λ r. ⌜ r ≡ at + textLength (drop at (now (fmt .entry))) ⌝ }
+// The place of the next `%` from a place on, or the end, byte by byte.
+fn next_percent(text: &[u8], at: usize) -> usize
+    requires { ⌜ at ≤ length (now text) ⌝ }
+    ensures { λ r. ⌜ r ≡ at + textLength (drop at (now (text .entry))) ⌝ }
 {
     let mut i = at;
-    while i < fmt.len() {
-        if fmt[i] == 37 {
+    while i < text.len() {
+        if text[i] == 37 {
             return i;
         }
         i = i + 1;
@@ -21,14 +21,14 @@ fn next_percent(fmt: &[u8], at: usize) -> usize
 }
 
 // Whether a `%` is among the 32 bytes from a place on. The loop has no way out, so that it can be compiled to operations on blocks.
-fn is_in_block(fmt: &[u8], at: usize) -> bool
-    requires { ⌜ at + 32 ≤ length (now fmt) ⌝ }
-    ensures { λ r. ⌜ r ≡ ltb (textLength (drop at (now (fmt .entry)))) 32 ⌝ }
+fn is_in_block(text: &[u8], at: usize) -> bool
+    requires { ⌜ at + 32 ≤ length (now text) ⌝ }
+    ensures { λ r. ⌜ r ≡ ltb (textLength (drop at (now (text .entry)))) 32 ⌝ }
 {
     let mut found = false;
     let mut i = 0;
     while i < 32 {
-        if fmt[at + i] == 37 {
+        if text[at + i] == 37 {
             found = true;
         }
         i = i + 1;
@@ -36,14 +36,13 @@ fn is_in_block(fmt: &[u8], at: usize) -> bool
     found
 }
 
-// A place from which the text ends where it ends from the place at. How far it lies is a matter of speed alone: behind all whole blocks without `%`.
-fn skip_blocks(fmt: &[u8], at: usize) -> usize
-    requires { ⌜ at ≤ length (now fmt) ⌝ }
-    ensures { λ r. ⌜ (r ≤ length (now (fmt .entry))) × (r + textLength (drop r (now (fmt .entry))) ≡ at + textLength (drop at (now (fmt .entry)))) ⌝ }
+// How many bytes stand before some place up to the next `%`. How far it lies is a matter of speed alone: behind all whole blocks without `%`.
+fn skip_blocks(text: &[u8]) -> usize
+    ensures { λ r. ⌜ (r ≤ length (now (text .entry))) × (r + textLength (drop r (now (text .entry))) ≡ textLength (now (text .entry))) ⌝ }
 {
-    let mut i = at;
-    while 32 <= fmt.len() - i {
-        if is_in_block(fmt, i) {
+    let mut i = 0;
+    while 32 <= text.len() - i {
+        if is_in_block(text, i) {
             return i;
         }
         i = i + 32;
@@ -51,10 +50,9 @@ fn skip_blocks(fmt: &[u8], at: usize) -> usize
     i
 }
 
-// The same, with whole blocks first.
-pub fn text_end(fmt: &[u8], at: usize) -> usize
-    requires { ⌜ at ≤ length (now fmt) ⌝ }
-    ensures { λ r. ⌜ r ≡ at + textLength (drop at (now (fmt .entry))) ⌝ }
+// How many bytes stand before the next `%`, or before the end: whole blocks first.
+pub fn text_len(text: &[u8]) -> usize
+    ensures { λ r. ⌜ r ≡ textLength (now (text .entry)) ⌝ }
 {
-    next_percent(fmt, skip_blocks(fmt, at))
+    next_percent(text, skip_blocks(text))
 }

@@ -53,7 +53,7 @@ fn is_text(byte: u8) -> bool
 }
 
 // The text that an argument of kind 7 names; any other kind names none.
-fn named_text<'a>(row: &'a [u8], argument: usize) -> &'a [u8]
+pub fn named_text<'a>(row: &'a [u8], argument: usize) -> &'a [u8]
     requires { ⌜ Argument (now row) argument ⌝ }
     ensures { λ r. ⌜ (now r ≡ namedText (now (row .entry)) argument) × (length (now r) < 2 ^ 32) ⌝ }
 {

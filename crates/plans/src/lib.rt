@@ -60,7 +60,7 @@ pub fn style_of(conversion: ConversionType) -> Style
     }
 }
 
-fn width_of(width: NumericParam) -> u32
+pub fn width_of(width: NumericParam) -> u32
     ensures { λ r. ⌜ r ≡ widthOf width ⌝ }
 {
     match width {

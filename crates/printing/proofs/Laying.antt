@@ -7,6 +7,7 @@ use native.Mathlib.Nat.{mod-eq-of-lt}
 use native.Mathlib.Omega.{arith}
 use lib.ListN.{length, take, drop, set, length-append}
 use lib.Seq.{length-take-le}
+use borrow.Rule.Slice.PartAt.{part-to-end}
 use Rattle.writing.specs.Laid.{laid}
 use Rattle.writing.proofs.Laid.{laid-none, laid-more}
 use Rattle.parsing.specs.Pieces.{start, pieceAt}
@@ -20,7 +21,9 @@ use Rattle.parsing.proofs.Progress.{advanced}
 use Rattle.parsing.proofs.Sound.{sound}
 use Rattle.rows.specs.Row.{kindsOf}
 use Rattle.pieces.specs.Texts.{Ready, pieceText}
-use Rattle.printing.specs.Printing.{textsOf, texts, joined, printedText, endsFrom, Stop, firstStop, unlessStopped, measuredEnd, counted, outcomeOf, withEnd, TallyBelow, Passed, Room, Filled, Added}
+use Rattle.printing.specs.Printing.{textsOf, texts, joined, printedText, endsFrom, Stop, firstStop, unlessStopped, measuredEnd, counted, outcomeOf, withEnd, TallyBelow, Passed, Room, Filled, Added, LaidPiece, Glanced}
+use Rattle.printing.specs.declared.Glance.{Glance}
+use Rattle.printing.specs.declared.Glance.the-variants as G
 use Rattle.printing.specs.declared.Outcome.{Outcome}
 use Rattle.printing.specs.declared.Outcome.the-variants.{Accepted, Refused}
 use Rattle.printing.specs.declared.Tally.{Tally}
@@ -108,6 +111,14 @@ pub record Laying (s row ks d e : List ℕ) (left : ℕ) (c : Cursor) (t : Tally
   pub as-long : length out ≡ length d
   pub as-many : length ends ≡ length e
 
+-- a piece that is found can be printed
+pub piece-ready : (s row ks : List ℕ) → Passed s row ks → (c : Cursor) (p : Piece) (n : Cursor) → pieceAt s ks c ≡ R.Found p n → Ready s row p
+piece-ready s row ks passed c p n f = record { short = passed .short; kept = passed .kept; inside = subst (λ (l : List ℕ). PieceIn s l p) (passed .kinds) (sound s ks c p n f) }
+
+-- a format and kinds that are handed on whole
+pub handed-on : (s ks : List ℕ) (c : Cursor) → pieceAt s ks c ≡ pieceAt (take (length s - 0) (drop 0 s)) (take (length ks - 0) (drop 0 ks)) c
+handed-on s ks c = sym (ap (λ (l : List ℕ). pieceAt l (take (length ks - 0) (drop 0 ks)) c) (part-to-end s 0) ∙ ap (λ (l : List ℕ). pieceAt s l c) (part-to-end ks 0))
+
 module _ (s row ks d e : List ℕ) (passed : Passed s row ks) where
   pub laying-start : (c : Cursor) → c ≡ start → Laying s row ks d e 513 c (Length 0) d e
   unfolding joined endsFrom
@@ -171,10 +182,6 @@ module _ (s row ks d e : List ℕ) (passed : Passed s row ks) where
     more : suc (c .pieces) ≡ n .pieces
     more = omega (arith, advanced s ks c p n f .pieces)
 
-    -- the piece can be printed
-    pub next-ready : Ready s row p
-    next-ready = record { short = passed .short; kept = passed .kept; inside = subst (λ (l : List ℕ). PieceIn s l p) (passed .kinds) (sound s ks c p n f) }
-
     -- one more
     pub laying-next : (r : Tally) (out′ ends′ : List ℕ) → Added s row p c t out ends r out′ ends′ → length out′ ≡ length out → length ends′ ≡ length ends
         → Laying s row ks d e (left - 1) n r out′ ends′
@@ -210,3 +217,15 @@ module _ (s row ks d e : List ℕ) (passed : Passed s row ks) where
               bytes = o ∙ ap (λ (j : ℕ). laid d (joined (textsTo s row ks j))) more;
               slots = z ∙ ends-next s row ks d e (passed .kinds) room (c .pieces) _ _ next ends (m′ % 4294967296) (g .slots) y ∙ ap (λ (j : ℕ). laid e (endsFrom 0 (textsTo s row ks j))) more;
             }
+
+  -- behind a glance: one more, or the same
+  module _ (left : ℕ) (c : Cursor) (t : Tally) (out ends : List ℕ) (w : Laying s row ks d e left c t out ends) (g : Glance) (out′ ends′ : List ℕ) (h : Glanced s row ks c t out ends g out′ ends′) where
+    pub glance-next : 0 < left → length out′ ≡ length out → length ends′ ≡ length ends → (r : Tally) (n : Cursor) → g ≡ G.Laid r n → Laying s row ks d e (left - 1) n r out′ ends′
+    glance-next some-left long many r n q =
+        let l : LaidPiece s row ks c t out ends r n out′ ends′ = subst (λ (x : Glance). Glanced s row ks c t out ends x out′ ends′) q h in
+        laying-next left c t out ends w some-left (l .piece) n (l .found) r out′ ends′ (l .added) long many
+
+    pub glance-other : g ≡ G.Other → Laying s row ks d e left c t out′ ends′
+    glance-other q =
+        let l : (out′ ≡ out) × (ends′ ≡ ends) = subst (λ (x : Glance). Glanced s row ks c t out ends x out′ ends′) q h in
+        subst (λ (x : List ℕ). Laying s row ks d e left c t x ends′) (sym (l .0)) (subst (λ (x : List ℕ). Laying s row ks d e left c t out x) (sym (l .1)) w)

@@ -4,4 +4,5 @@ pub mod Tallies
 pub mod Accepted
 pub mod Behind
 pub mod Laying
+pub mod Own
 pub mod Demand

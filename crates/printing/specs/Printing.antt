@@ -9,10 +9,12 @@ use lib.ListN.{length, take, set}
 use Rattle.writing.specs.Choose.{choose}
 use Rattle.writing.specs.Laid.{laid}
 use Rattle.utf8.specs.Utf8.{wellFormed}
+use Rattle.parsing.specs.Pieces.{pieceAt}
 use Rattle.parsing.specs.Check.{ended}
 use Rattle.parsing.specs.Listed.{Placed, placed}
 use Rattle.parsing.specs.declared.Piece.{Piece}
 use Rattle.parsing.specs.declared.Cursor.{Cursor}
+use Rattle.parsing.specs.declared.Step.the-variants.{Found}
 use Rattle.parsing.specs.declared.Ended.{Ended}
 use Rattle.parsing.specs.declared.Ended.the-variants.{Finished, Stopped}
 use Rattle.rows.specs.Row.{kindsOf, isRow}
@@ -21,6 +23,8 @@ use Rattle.pieces.specs.declared.Size.{Size}
 use Rattle.pieces.specs.declared.Size.the-variants as S
 use Rattle.printing.specs.declared.Outcome.{Outcome}
 use Rattle.printing.specs.declared.Outcome.the-variants.{Accepted, Refused}
+use Rattle.printing.specs.declared.Glance.{Glance}
+use Rattle.printing.specs.declared.Glance.the-variants as G
 use Rattle.printing.specs.declared.Tally.{Tally}
 use Rattle.printing.specs.declared.Tally.the-variants.{Length, Stops}
 
@@ -141,3 +145,13 @@ pub record Added (s row : List ℕ) (p : Piece) (c : Cursor) (t : Tally) (d e : 
   pub below : TallyBelow (c .pieces + 1) r
   pub bytes : (n : ℕ) → t ≡ Length n → n + length (pieceText s row p) ≤ length d → out ≡ laid d (take n d ++ pieceText s row p)
   pub slot : ends ≡ withEnd (c .pieces) r e
+
+-- A piece laid at a glance is the one that next_piece finds; otherwise nothing is written.
+pub record LaidPiece (s row ks : List ℕ) (c : Cursor) (t : Tally) (d e : List ℕ) (r : Tally) (n : Cursor) (out ends : List ℕ) : Type 0 where
+  pub piece : Piece
+  pub found : pieceAt s ks c ≡ Found piece n
+  pub added : Added s row piece c t d e r out ends
+
+abbrev pub Glanced : List ℕ → List ℕ → List ℕ → Cursor → Tally → List ℕ → List ℕ → Glance → List ℕ → List ℕ → Type 0
+Glanced s row ks c t d e (G.Laid r n) out ends = LaidPiece s row ks c t d e r n out ends
+Glanced s row ks c t d e G.Other out ends = (out ≡ d) × (ends ≡ e)

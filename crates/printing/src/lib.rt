@@ -2,11 +2,13 @@
 // Ported from format_string.rs of datafusion-spark 55.2.0 (Apache-2.0; see NOTICE): Formatter::format. The original pushes the
 // text of each element to a string; here one pass finds every refusal and the text's length, and writes as far as it has
 // room; what is lent to a caller is written only once no refusal is left.
+use numerals::NumericParam;
 use parsing::Cursor;
 use parsing::Piece;
 use parsing::Step;
 use pieces::Size;
 use rows::RowRead;
+use texts::Column;
 ghost use mathlib.Core.Path.{_≡_};
 ghost use mathlib.Core.Bool.{true};
 ghost use Prim.Native.Nat.{_+_, _-_, _≤_, _<_};
@@ -16,7 +18,8 @@ ghost use Rattle.rows.specs.Row.{kindsOf, kindByteOf};
 ghost use Rattle.parsing.specs.declared.Piece.the-variants as P;
 ghost use Rattle.pieces.specs.Texts.{Ready, SizeBelow};
 ghost use Rattle.plain.specs.Plain.{isLetter, isWhole, plainElement};
-ghost use Rattle.printing.specs.Printing.{Passed, TallyBelow, Filled, Added, behind, withEnd, texts, added, outcomeOf, printedText, endsFrom, measuredEnd, measured, within, printed, written};
+ghost use Rattle.texts.specs.TextColumns.{textElement};
+ghost use Rattle.printing.specs.Printing.{Passed, TallyBelow, Filled, Added, Glanced, behind, withEnd, texts, added, outcomeOf, printedText, endsFrom, measuredEnd, measured, within, printed, written};
 ghost use Rattle.printing.specs.Demand.{Demanded};
 ghost use Rattle.printing.specs.declared.Outcome.the-variants.{Refused};
 
@@ -30,6 +33,12 @@ pub enum Outcome {
 pub enum Tally {
     Length(u64),
     Stops { number: u8, place: usize },
+}
+
+// A piece laid at a glance, with what is added up and the cursor behind it, or anything else.
+pub enum Glance {
+    Laid { tally: Tally, next: Cursor },
+    Other,
 }
 
 fn refused(number: u8, place: usize) -> Outcome
@@ -134,6 +143,72 @@ fn add_plain<'a>(
     add_size(tally, size, c, ends)
 }
 
+// One more piece, a column of text at the cursor.
+fn add_column<'a>(
+    fmt: &'a [u8],
+    row: &'a [u8],
+    left: bool,
+    width: NumericParam,
+    precision: NumericParam,
+    c: Cursor,
+    tally: Tally,
+    out: &mut [u8],
+    ends: &mut [u32],
+) -> Tally
+    requires { ⌜ (Ready (now fmt) (now row) (P.Element (textElement left width precision (c .count + 1)))) × (c .pieces < 512) × (TallyBelow (c .pieces) tally) × (kindByteOf (now row) (c .count + 1) ≡ 7) × (c .count < 512) ⌝ }
+    ensures { λ r. ⌜ Added (now (fmt .entry)) (now (row .entry)) (P.Element (textElement left width precision (c .count + 1))) c tally (now (out .entry)) (now (ends .entry)) r (now (out .exit)) (now (ends .exit)) ⌝ }
+{
+    let argument = c.count + 1;
+    let from = place_behind(tally, out.len());
+    let size = texts::put_column(&mut out[from..], fmt, row, argument, left, width, precision);
+    add_size(tally, size, c, ends)
+}
+
+// A piece at the cursor that is known at a glance: fixed text, a plain column or a column of text. For speed alone: next_piece and add_piece would do.
+fn add_glance<'a>(
+    fmt: &'a [u8],
+    row: &'a [u8],
+    kinds: &'a [u8],
+    c: Cursor,
+    tally: Tally,
+    out: &mut [u8],
+    ends: &mut [u32],
+) -> Glance
+    requires { ⌜ (Passed (now fmt) (now row) (now kinds)) × (TallyBelow (c .pieces) tally) × (c .count ≤ c .pieces) ⌝ }
+    ensures { λ r. ⌜ Glanced (now (fmt .entry)) (now (row .entry)) (now (kinds .entry)) c tally (now (out .entry)) (now (ends .entry)) r (now (out .exit)) (now (ends .exit)) ⌝ }
+{
+    let at = c.at;
+    if plain::is_fixed(fmt, c) {
+        let end = at + parsing::scan::text_len(&fmt[at..]);
+        return Glance::Laid {
+            tally: add_fixed(fmt, row, end, c, tally, out, ends),
+            next: parsing::passed_by(c, end),
+        };
+    }
+    if plain::is_plain(fmt, kinds, c) {
+        let count = c.count + 1;
+        return Glance::Laid {
+            tally: add_plain(fmt, row, fmt[at + 1], c, tally, out, ends),
+            next: parsing::used_by(c, at + 2, count, count, count),
+        };
+    }
+    let column = texts::column_at(fmt, kinds, c);
+    let Column::Text {
+        left,
+        width,
+        precision,
+        next: end,
+    } = column
+    else {
+        return Glance::Other;
+    };
+    let count = c.count + 1;
+    Glance::Laid {
+        tally: add_column(fmt, row, left, width, precision, c, tally, out, ends),
+        next: parsing::used_by(c, end, count, count, count),
+    }
+}
+
 // The outcome of a format that was read to its end.
 fn outcome_of(tally: Tally, pieces: usize) -> Outcome
     ensures { λ r. ⌜ r ≡ outcomeOf tally pieces ⌝ }
@@ -167,25 +242,17 @@ fn lay_pieces<'a>(
     let mut tally = Tally::Length(0);
     let mut left: u32 = 513;
     while 0 < left {
-        let at = c.at;
-        if fmt.len() <= at {
+        if fmt.len() <= c.at {
             return outcome_of(tally, c.pieces);
         }
-        if plain::is_fixed(fmt, c) {
-            let end = parsing::scan::text_end(fmt, at);
-            tally = add_fixed(fmt, row, end, c, tally, out, ends);
-            c = parsing::passed_by(c, end);
+        let glance = add_glance(fmt, row, kinds, c, tally, out, ends);
+        if let Glance::Laid { tally: added, next } = glance {
+            tally = added;
+            c = next;
             left = left - 1;
             continue;
         }
-        if plain::is_plain(fmt, kinds, c) {
-            let count = c.count + 1;
-            tally = add_plain(fmt, row, fmt[at + 1], c, tally, out, ends);
-            c = parsing::used_by(c, at + 2, count, count, count);
-            left = left - 1;
-            continue;
-        }
-        let step = parsing::next_piece(fmt, kinds, c);
+        let step = parsing::next_piece(&fmt[0..], &kinds[0..], c);
         match step {
             Step::Found { piece, next } => {
                 tally = add_piece(fmt, row, piece, c, tally, out, ends);
@@ -220,7 +287,7 @@ pub fn stage<'a>(fmt: &'a [u8], row: &'a [u8], out: &mut [u8], ends: &mut [u32])
             place: 0,
         };
     }
-    let RowRead::Row { count } = rows::read_row(row) else {
+    let RowRead::Row { count } = rows::read_row(&row[0..]) else {
         return Outcome::Refused {
             number: 14,
             place: 0,

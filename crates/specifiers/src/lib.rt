@@ -154,7 +154,7 @@ fn take_flags(fmt: &[u8], at: usize) -> FlagsTaken
 }
 
 // `.` and digits, or no precision.
-fn take_precision(fmt: &[u8], at: usize) -> Taken
+pub fn take_precision(fmt: &[u8], at: usize) -> Taken
     ensures { λ r. ⌜ r ≡ precisionAt (now (fmt .entry)) at ⌝ }
 {
     if at < fmt.len() {

@@ -1,13 +1,14 @@
 -- `parsing::next_piece` meets its contract. Assumes nothing.
 use Prim.Native.Nat.{_+_}
-use mathlib.Core.Path.{_≡_, ap}
+use mathlib.Core.Path.{_≡_, ap, _∙_}
 use mathlib.Core.List.{_∷_}
-use lib.ListN.{getD, drop}
-use native.Mathlib.Nat.{add-sub-cancel-left}
+use lib.ListN.{getD, drop, length-drop}
 use native.Mathlib.Omega.{arith}
+use borrow.Rule.Slice.PartAt.{part-to-end}
 use borrow.Author.Tests.{le-ltb, lt-ltb, eq-eqb, ne-eqb}
 use Rattle.specifiers.proofs.Bytes.{byte-at}
 use Rattle.parsing.specs.Pieces.{textLength, pieceAt}
+use Rattle.parsing.proofs.Progress.{text-in}
 use borrow.Author.Needs.{needs}
 use Rattle.parsing.proofs.next_piece.Statement.{statement}
 use Rattle.parsing.proofs.next_piece.Tie as tie
@@ -30,11 +31,27 @@ returns-3 : tie.Need-returns-3
 unfolding pieceAt
 returns-3 c = simp (lt-ltb _ _ (c .before .before .before .before .if1 .left), lt-ltb _ _ (c .before .before .before .if2 .left), byte-at (c .before .before .before .before .before .before .before .args .fmt .now) (c .before .before .before .before .before .before .before .args .c .at) (c .before .before .before .before .if1 .left), eq-eqb _ _ (c .before .if3 .taken)) (c .take-percent .ensures)
 
-text-end-requires : tie.Need-text-end-requires
-text-end-requires c κs = search needs
+sub-text-len : tie.Need-sub-text-len
+sub-text-len c = search needs
 
-sub-t7 : tie.Need-sub-t7
-sub-t7 c = omega (arith, c .text-end .ensures)
+part-text-len-start : tie.Need-part-text-len-start
+part-text-len-start c = search needs
+
+part-text-len-end : tie.Need-part-text-len-end
+part-text-len-end c = search needs
+
+text-len-requires : tie.Need-text-len-requires
+text-len-requires c κs = search needs
+
+-- the length of the text from the cursor on
+measured : (c : tie.After-text-len) → c .text-len .result ≡ textLength (drop (c .before .before .before .before .before .before .before .before .args .c .at) (c .before .before .before .before .before .before .before .before .args .fmt .now))
+measured c = c .text-len .ensures ∙ ap textLength (part-to-end (c .before .before .before .before .before .before .before .before .args .fmt .now) (c .before .before .before .before .before .before .before .before .args .c .at))
+
+add-passed-by : tie.Need-add-passed-by
+add-passed-by c =
+    let f = (c .before .before .before .before .before .before .before .before .args .fmt .now) in
+    let at = c .before .before .before .before .before .before .before .before .args .c .at in
+    omega (arith, measured c, text-in (drop at f), length-drop at f)
 
 passed-by-requires : tie.Need-passed-by-requires
 passed-by-requires c κs = search needs
@@ -42,13 +59,12 @@ passed-by-requires c κs = search needs
 returns-4 : tie.Need-returns-4
 unfolding pieceAt
 returns-4 c =
-    let f = (c .before .before .before .before .before .before .before .before .args .fmt .now) in
-    let at = c .before .before .before .before .before .before .before .before .args .c .at in
-    let h = c .before .before .before .before .before .if1 .left in
+    let f = (c .before .before .before .before .before .before .before .before .before .args .fmt .now) in
+    let at = c .before .before .before .before .before .before .before .before .before .args .c .at in
+    let h = c .before .before .before .before .before .before .if1 .left in
     let e = byte-at f at h in
-    let l : textLength (drop at f) ≡ textLength (getD f at 0 ∷ drop (at + 1) f) = ap textLength e in
-    let m : c .before .text-end .result ≡ at + textLength (getD f at 0 ∷ drop (at + 1) f) = omega (arith, l, c .before .text-end .ensures) in
-    simp (lt-ltb _ _ h, lt-ltb _ _ (c .before .before .before .before .if2 .left), e, ne-eqb _ _ (c .before .before .if3 .left), c .passed-by .ensures, m, add-sub-cancel-left)
+    let m : c .before .text-len .result ≡ textLength (getD f at 0 ∷ drop (at + 1) f) = measured (c .before) ∙ ap textLength e in
+    simp (lt-ltb _ _ h, lt-ltb _ _ (c .before .before .before .before .before .if2 .left), e, ne-eqb _ _ (c .before .before .before .if3 .left), c .passed-by .ensures, m)
 
 pub next-piece-spec : {M : Type 1} → statement M
 next-piece-spec =
@@ -59,7 +75,10 @@ next-piece-spec =
     shared-slice-read-if3
     take-percent-requires
     returns-3
-    text-end-requires
-    sub-t7
+    sub-text-len
+    part-text-len-start
+    part-text-len-end
+    text-len-requires
+    add-passed-by
     passed-by-requires
     returns-4)

@@ -13,13 +13,13 @@ use Rattle.parsing.proofs.scan.is_in_block.Statement.{statement}
 use Rattle.parsing.proofs.scan.is_in_block.Tie as tie
 
 abbrev Inv-loop : tie.InvT-loop
-Inv-loop fmt at found₀ i₀ found i = (i ≤ 32) × (found ≡ ltb (textLength (drop at fmt)) i)
+Inv-loop text at found₀ i₀ found i = (i ≤ 32) × (found ≡ ltb (textLength (drop at text)) i)
 
 abbrev μ-loop : tie.MeasureT-loop
-μ-loop fmt at found₀ i₀ found i = 32 - i
+μ-loop text at found₀ i₀ found i = 32 - i
 
 loop-holds : tie.Need-loop-holds Inv-loop μ-loop
-loop-holds c = (omega arith, sym (le-ltb (textLength (drop (c .args .at) (c .args .fmt .now))) 0 (omega arith)))
+loop-holds c = (omega arith, sym (le-ltb (textLength (drop (c .args .at) (c .args .text .now))) 0 (omega arith)))
 
 add-if1 : tie.Need-add-if1 Inv-loop μ-loop
 add-if1 c = search needs
@@ -37,14 +37,14 @@ loop-again : tie.Need-loop-again Inv-loop μ-loop
 loop-again c =
     let l = c .before .before .before .loop in
     let a = c .before .before .before .before .args in
-    (omega arith, ⊎-elim (λ w. w .1 ∙ sym (block-percent (a .fmt .now) (a .at) (l .i) (omega arith) (w .0 .taken))) (λ w. w .1 ∙ l .inv .1 ∙ block-more (a .fmt .now) (a .at) (l .i) (omega arith) (w .0 .left)) (c .if1 .came))
+    (omega arith, ⊎-elim (λ w. w .1 ∙ sym (block-percent (a .text .now) (a .at) (l .i) (omega arith) (w .0 .taken))) (λ w. w .1 ∙ l .inv .1 ∙ block-more (a .text .now) (a .at) (l .i) (omega arith) (w .0 .left)) (c .if1 .came))
 
 returns : tie.Need-returns Inv-loop μ-loop
 returns c =
     let l = c .before .loop in
     let a = c .before .before .args in
     let e : l .i ≡ 32 = omega arith in
-    l .inv .1 ∙ ap (ltb (textLength (drop (a .at) (a .fmt .now)))) e
+    l .inv .1 ∙ ap (ltb (textLength (drop (a .at) (a .text .now)))) e
 
 pub is-in-block-spec : {M : Type 1} → statement M
 is-in-block-spec =

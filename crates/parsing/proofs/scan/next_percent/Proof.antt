@@ -10,10 +10,10 @@ use Rattle.parsing.proofs.scan.next_percent.Statement.{statement}
 use Rattle.parsing.proofs.scan.next_percent.Tie as tie
 
 abbrev Inv-loop : tie.InvT-loop
-Inv-loop fmt at i₀ i = i + textLength (drop i fmt) ≡ at + textLength (drop at fmt)
+Inv-loop text at i₀ i = i + textLength (drop i text) ≡ at + textLength (drop at text)
 
 abbrev μ-loop : tie.MeasureT-loop
-μ-loop fmt at i₀ i = length fmt - i
+μ-loop text at i₀ i = length text - i
 
 loop-holds : tie.Need-loop-holds Inv-loop μ-loop
 loop-holds c = refl
@@ -24,7 +24,7 @@ shared-slice-read-if1 c = search needs
 returns : tie.Need-returns Inv-loop μ-loop
 returns c =
     let l = c .before .before .before .loop in
-    let s = c .before .before .before .before .args .fmt .now in
+    let s = c .before .before .before .before .args .text .now in
     omega (arith, l .inv, text-percent s (l .i) (omega arith) (c .if1 .taken))
 
 add-i : tie.Need-add-i Inv-loop μ-loop
@@ -36,13 +36,13 @@ loop-less c = search needs
 loop-again : tie.Need-loop-again Inv-loop μ-loop
 loop-again c =
     let l = c .before .before .before .loop in
-    let s = c .before .before .before .before .args .fmt .now in
+    let s = c .before .before .before .before .args .text .now in
     omega (arith, l .inv, text-more s (l .i) (omega arith) (c .if1 .left))
 
 returns-2 : tie.Need-returns-2 Inv-loop μ-loop
 returns-2 c =
     let l = c .before .loop in
-    let s = c .before .before .args .fmt .now in
+    let s = c .before .before .args .text .now in
     omega (arith, l .inv, text-ends s (l .i) (omega arith))
 
 pub next-percent-spec : {M : Type 1} → statement M

@@ -11,10 +11,10 @@ use Rattle.parsing.proofs.scan.skip_blocks.Statement.{statement}
 use Rattle.parsing.proofs.scan.skip_blocks.Tie as tie
 
 abbrev Inv-loop : tie.InvT-loop
-Inv-loop fmt at i₀ i = (i ≤ length fmt) × (i + textLength (drop i fmt) ≡ at + textLength (drop at fmt))
+Inv-loop text i₀ i = (i ≤ length text) × (i + textLength (drop i text) ≡ textLength text)
 
 abbrev μ-loop : tie.MeasureT-loop
-μ-loop fmt at i₀ i = length fmt - i
+μ-loop text i₀ i = length text - i
 
 loop-holds : tie.Need-loop-holds Inv-loop μ-loop
 loop-holds c = search needs
@@ -37,7 +37,7 @@ loop-less c = search needs
 loop-again : tie.Need-loop-again Inv-loop μ-loop
 loop-again c =
     let l = c .before .before .before .loop in
-    let s = c .before .before .before .before .before .args .fmt .now in
+    let s = c .before .before .before .before .before .args .text .now in
     let h = ltb-false (textLength (drop (l .i) s)) 32 (sym (c .before .is-in-block .ensures) ∙ c .if1 .left) in
     (omega arith, omega (arith, l .inv .1, text-past s (l .i) 32 h))
 

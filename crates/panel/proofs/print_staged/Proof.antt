@@ -1,0 +1,86 @@
+-- `panel::print_staged` meets its contract. Assumes nothing.
+use Prim.Native.Nat.{_/_}
+use mathlib.Core.Path.{_≡_, sym, ap, _∙_}
+use lib.ListN.{length}
+use Rattle.printing.specs.Printing.{texts, printedText, endsFrom, within, printed, written}
+use Rattle.printing.specs.declared.Outcome.{Outcome}
+use Rattle.printing.proofs.Accepted.{fitted}
+use Rattle.panel.specs.Entries.{allBytes}
+use Rattle.panel.proofs.Slots.{holds}
+use borrow.Author.Needs.{needs}
+use Rattle.panel.proofs.print_staged.Statement.{statement}
+use Rattle.panel.proofs.print_staged.Tie as tie
+
+slice-aggregate-stage : tie.Need-slice-aggregate-stage
+slice-aggregate-stage c = search needs
+
+slice-aggregate-stage-2 : tie.Need-slice-aggregate-stage-2
+slice-aggregate-stage-2 c = search needs
+
+stage-requires : tie.Need-stage-requires
+stage-requires c κs = search needs
+
+fit-requires : tie.Need-fit-requires
+fit-requires c κs = search needs
+
+-- the answer
+answered : (c : tie.After-fit) → printed (c .before .before .before .before .before .before .before .before .before .before .args .fmt .now) (c .before .before .before .before .before .before .before .before .before .before .args .row .now) (length (c .before .before .before .before .before .before .before .before .before .before .args .out .now)) (length (c .before .before .before .before .before .before .before .before .before .before .args .ends .now) / 4) ≡ c .fit .result
+unfolding printed
+answered c = sym (c .fit .ensures ∙ ap (within (length (c .before .before .before .before .before .before .before .before .before .before .args .out .now)) (length (c .before .before .before .before .before .before .before .before .before .before .args .ends .now) / 4)) (c .before .before .before .stage .ensures .0))
+
+enum-known-answer : tie.Need-enum-known-answer
+enum-known-answer c = search needs
+
+enum-told : tie.Need-enum-told
+enum-told c = search needs
+
+returns : tie.Need-returns
+returns c =
+    let w = c .before .before .before .before .before .before .before .before .before .before .before .before .args in
+    record {
+      answer = sym (answered (c .before .before));
+      bytes = sym (ap (λ (o : Outcome). written o (w .out .now) (printedText (w .fmt .now) (w .row .now))) (c .enum-told .given .1));
+      slots = sym (ap (λ (o : Outcome). written o (w .ends .now) (allBytes (endsFrom 0 (texts (w .fmt .now) (w .row .now))))) (c .enum-told .given .1));
+    }
+
+slice-aggregate-print-accepted : tie.Need-slice-aggregate-print-accepted
+slice-aggregate-print-accepted c = search needs
+
+slice-aggregate-print-accepted-2 : tie.Need-slice-aggregate-print-accepted-2
+slice-aggregate-print-accepted-2 c = search needs
+
+print-accepted-requires : tie.Need-print-accepted-requires
+print-accepted-requires c κs =
+    let w = c .before .before .before .before .before .before .before .before .before .before .before .before .before .before .before .before .before .args in
+    let v = c .before .before .before .before .before .before .before .before .before .before .stage in
+    let q = answered (c .before .before .before .before .before .before .before) ∙ c .before .before .before .before .before .answer .given .1 in
+    (q, holds (w .fmt .now) (w .row .now) _ _ _ _ (fitted (w .fmt .now) (w .row .now) _ _ _ _ q) _ _ _ _ _ (v .ensures .0) (v .ensures .1) (search needs) (search needs))
+
+same-length : tie.Need-same-length
+same-length c = search needs
+
+same-length-2 : tie.Need-same-length-2
+same-length-2 c = search needs
+
+returns-2 : tie.Need-returns-2
+returns-2 c =
+    let z = c .before .before .before .before .print-accepted .ensures in
+    record { answer = sym (answered (c .before .before .before .before .before .before .before .before .before .before .before .before) ∙ c .before .before .before .before .before .before .before .before .before .before .answer .given .1); bytes = z .0; slots = z .1 }
+
+pub print-staged-spec : {M : Type 1} → statement M
+print-staged-spec =
+    tie.close
+    (tie.spec
+    slice-aggregate-stage
+    slice-aggregate-stage-2
+    stage-requires
+    fit-requires
+    enum-known-answer
+    enum-told
+    returns
+    slice-aggregate-print-accepted
+    slice-aggregate-print-accepted-2
+    print-accepted-requires
+    same-length
+    same-length-2
+    returns-2)

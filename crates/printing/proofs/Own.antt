@@ -1,0 +1,82 @@
+-- A format that is text alone: one piece, the format itself. Assumes nothing.
+use mathlib.Core.Path.{_≡_, refl, sym, ap, _∙_}
+use mathlib.Core.Bool.{true, false}
+use mathlib.Core.List.{List, [], _∷_, append-nil}
+use mathlib.Core.Option.{none}
+use Prim.Native.Nat.{ℕ, suc, _≤_}
+use native.Mathlib.Nat.{zero-add}
+use native.Mathlib.Omega.{arith}
+use lib.Dec.{eqb}
+use lib.ListN.{length, take, drop}
+use lib.Seq.{take-length}
+use borrow.Author.Tests.{lt-ltb, le-ltb}
+use Rattle.writing.proofs.Choose.{by-test}
+use Rattle.parsing.specs.Pieces.{start, passed, textLength, pieceAt}
+use Rattle.parsing.specs.Listed.{Placed, placedFrom, placed}
+use Rattle.parsing.specs.Check.{ended}
+use Rattle.parsing.specs.declared.Ended.the-variants.{Finished}
+use Rattle.parsing.specs.declared.Piece.the-variants.{Fixed}
+use Rattle.parsing.specs.declared.Step.the-variants.{Found}
+use Rattle.rows.specs.Row.{kindsOf, isRow}
+use Rattle.pieces.specs.Texts.{unpadded, stopOf, pieceText}
+use Rattle.texts.proofs.Own.{OwnText}
+use Rattle.printing.specs.Printing.{textsOf, texts, joined, printedText, endsFrom, Stop, firstStop, unlessStopped, measuredEnd, measured}
+use Rattle.printing.specs.declared.Outcome.the-variants.{Accepted, Refused}
+use Rattle.printing.proofs.Reached.{Reached, reached-start, next-piece, reached-next, reached-end, past-end}
+
+first-byte : (b : ℕ) (bs : List ℕ) → textLength (b ∷ bs) ≡ suc (length bs) → eqb b 37 ≡ false
+unfolding textLength
+first-byte b bs = by-test (λ (m : ℕ). m ≡ suc (length bs) → eqb b 37 ≡ false) (eqb b 37) _ _ (λ _ e. absurd (omega arith)) (λ f _. f)
+
+first-piece : (s ks : List ℕ) → 1 ≤ length s → textLength s ≡ length s → pieceAt s ks start ≡ Found (Fixed 0 (length s)) (passed start (length s))
+unfolding pieceAt
+first-piece [] ks h e = absurd (omega arith)
+first-piece (b ∷ bs) ks h e = simp (lt-ltb 0 (length (b ∷ bs)) h, first-byte b bs e, e, zero-add)
+
+module _ (s ks : List ℕ) (own : OwnText s) where
+  found : pieceAt s ks start ≡ Found (Fixed 0 (length s)) (passed start (length s))
+  found = first-piece s ks (own .some) (own .text)
+
+  behind : Reached s ks 512 (passed start (length s))
+  behind = reached-next s ks 513 start (reached-start s ks start refl) (omega arith) (Fixed 0 (length s)) (passed start (length s)) found
+
+  at-end : (ended s ks ≡ Finished (passed start (length s))) × (take 1 (placed s ks) ≡ placed s ks)
+  at-end = reached-end s ks 512 (passed start (length s)) behind (omega arith) (past-end s ks (passed start (length s)) (omega arith))
+
+  own-ended : ended s ks ≡ Finished (passed start (length s))
+  own-ended = at-end .0
+
+  own-placed : placed s ks ≡ record { piece = Fixed 0 (length s); from = 0; to = length s } ∷ []
+  own-placed = sym (at-end .1) ∙ ap (take 1) (next-piece s ks 513 start (reached-start s ks start refl) (omega arith) (Fixed 0 (length s)) (passed start (length s)) found)
+
+module _ (s row : List ℕ) (own : OwnText s) where
+  own-text : pieceText s row (Fixed 0 (length s)) ≡ s
+  unfolding pieceText unpadded
+  own-text = take-length s
+
+  pub own-texts : texts s row ≡ s ∷ []
+  unfolding texts textsOf
+  own-texts = ap (textsOf s row) (own-placed s (kindsOf row) own) ∙ ap (λ (t : List ℕ). t ∷ []) own-text
+
+  pub own-printed : printedText s row ≡ s
+  unfolding printedText joined
+  own-printed = ap joined own-texts ∙ append-nil s
+
+  pub own-ends : endsFrom 0 (texts s row) ≡ length s ∷ []
+  unfolding endsFrom
+  own-ends = ap (endsFrom 0) own-texts ∙ ap (λ (n : ℕ). n ∷ []) (zero-add (length s))
+
+  pub own-count : length (placed s (kindsOf row)) ≡ 1
+  own-count = ap length (own-placed s (kindsOf row) own)
+
+  unstopped : firstStop s row (placed s (kindsOf row)) ≡ none
+  unfolding firstStop stopOf
+  unstopped = ap (firstStop s row) (own-placed s (kindsOf row) own)
+
+  pub own-measured : isRow row ≡ true → measured s row ≡ Accepted (length s) 1
+  unfolding measured measuredEnd
+  own-measured kept = simp (le-ltb 4096 (length s) (own .short), own .formed, kept, own-ended s (kindsOf row) own, unstopped, own-printed)
+
+  pub own-broken : isRow row ≡ false → measured s row ≡ Refused 14 0
+  unfolding measured
+  own-broken broken = simp (le-ltb 4096 (length s) (own .short), own .formed, broken)
