@@ -1,4 +1,5 @@
-/* Texts and pieces about as many as panel_print copies from memory of its own (256 bytes, 64 pieces); beyond, it writes them by a second pass. */
+/* Texts and pieces about as many as panel_print copies from memory of its own (256 bytes, 64 pieces); beyond, it writes them by a second pass.
+   Formats that are text alone, which it copies at once, of lengths about its blocks and of the longest. */
 #include <stdio.h>
 #include <string.h>
 
@@ -58,6 +59,10 @@ static void try_columns(size_t count, size_t width)
 void try_copied(void)
 {
     pack_seven();
+    for (size_t n = 1; n <= 70; n++)
+        try_plain_text(n);
+    for (size_t n = 4093; n <= 4096; n++)
+        try_plain_text(n);
     for (size_t n = 252; n <= 260; n++) {
         try_plain_text(n);
         try_width(n);

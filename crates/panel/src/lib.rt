@@ -166,15 +166,15 @@ fn print_own<'a>(fmt: &'a [u8], row: &'a [u8], out: &mut [u8], ends: &mut [u8]) 
         length: n as u64,
         pieces: 1,
     };
-    let answer = printing::fit(found, out.len() as u64, (ends.len() / 4) as u64);
+    let fitted = printing::fit(found, out.len() as u64, (ends.len() / 4) as u64);
     if let Outcome::Accepted {
         length: _,
         pieces: _,
-    } = answer {
+    } = fitted {
         writing::write_text(out, fmt);
         put_end(ends, n as u32);
     }
-    answer
+    fitted
 }
 
 // Prints any format. The pass that excludes every refusal leaves a short text and its ends ready to be copied.
