@@ -13,7 +13,7 @@ use Rattle.parsing.specs.declared.Piece.{Piece}
 use Rattle.parsing.specs.declared.Cursor.{Cursor}
 use Rattle.pieces.specs.declared.Size.{Size}
 use Rattle.pieces.specs.Texts.{pieceText, sizeOf}
-use Rattle.printing.specs.Printing.{TallyBelow, Added, added, behind, withEnd}
+use Rattle.printing.specs.Passes.{TallyBelow, Added, added, behind, withEnd}
 use Rattle.printing.specs.declared.Tally.{Tally}
 use Rattle.printing.specs.declared.Tally.the-variants.{Length}
 

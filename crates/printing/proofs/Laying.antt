@@ -21,7 +21,8 @@ use Rattle.parsing.proofs.Progress.{advanced}
 use Rattle.parsing.proofs.Sound.{sound}
 use Rattle.rows.specs.Row.{kindsOf}
 use Rattle.pieces.specs.Texts.{Ready, pieceText}
-use Rattle.printing.specs.Printing.{textsOf, texts, joined, printedText, endsFrom, Stop, firstStop, unlessStopped, measuredEnd, counted, outcomeOf, withEnd, TallyBelow, Passed, Room, Filled, Added, LaidPiece, Glanced}
+use Rattle.printing.specs.Printing.{textsOf, texts, joined, printedText, endsFrom, Stop, firstStop, unlessStopped, measuredEnd}
+use Rattle.printing.specs.Passes.{counted, outcomeOf, withEnd, TallyBelow, Passed, Room, Filled, Added, LaidPiece, Glanced}
 use Rattle.printing.specs.declared.Glance.{Glance}
 use Rattle.printing.specs.declared.Glance.the-variants as G
 use Rattle.printing.specs.declared.Outcome.{Outcome}

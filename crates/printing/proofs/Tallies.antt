@@ -9,7 +9,8 @@ use Rattle.parsing.specs.Listed.{Placed, placed}
 use Rattle.rows.specs.Row.{kindsOf}
 use Rattle.pieces.specs.Texts.{stopOf, pieceText, sized, sizeOf}
 use Rattle.pieces.specs.declared.Size.{Size}
-use Rattle.printing.specs.Printing.{textsOf, texts, joined, printedText, Stop, stopAt, firstStop, unlessStopped, addSize, counted, outcomeOf}
+use Rattle.printing.specs.Printing.{textsOf, texts, joined, printedText, Stop, stopAt, firstStop, unlessStopped}
+use Rattle.printing.specs.Passes.{addSize, counted, outcomeOf}
 use Rattle.printing.specs.declared.Outcome.{Outcome}
 use Rattle.printing.specs.declared.Outcome.the-variants.{Accepted}
 use Rattle.printing.specs.declared.Tally.{Tally}

@@ -19,7 +19,8 @@ ghost use Rattle.parsing.specs.declared.Piece.the-variants as P;
 ghost use Rattle.pieces.specs.Texts.{Ready, SizeBelow};
 ghost use Rattle.plain.specs.Plain.{isLetter, isWhole, plainElement};
 ghost use Rattle.texts.specs.TextColumns.{textElement};
-ghost use Rattle.printing.specs.Printing.{Passed, TallyBelow, Filled, Added, Glanced, behind, withEnd, texts, added, outcomeOf, printedText, endsFrom, measuredEnd, measured, within, printed, written};
+ghost use Rattle.printing.specs.Printing.{texts, printedText, endsFrom, measuredEnd, measured, within, printed, written};
+ghost use Rattle.printing.specs.Passes.{Passed, TallyBelow, Filled, Added, Glanced, behind, withEnd, added, outcomeOf};
 ghost use Rattle.printing.specs.Demand.{Demanded};
 ghost use Rattle.printing.specs.declared.Outcome.the-variants.{Refused};
 
@@ -226,7 +227,7 @@ fn outcome_of(tally: Tally, pieces: usize) -> Outcome
 }
 
 // A pass over the pieces: the format's own refusals, then the first piece that is not printed, else the text's length. The text and its ends are written
-// on the way as far as they have room. Fixed text and plain columns are taken at a glance, for speed alone.
+// on the way as far as they have room. What is known at a glance is taken so, for speed alone.
 fn lay_pieces<'a>(
     fmt: &'a [u8],
     row: &'a [u8],

@@ -4,7 +4,7 @@ use mathlib.Core.Path.{_≡_, refl, sym, ap, subst, _∙_}
 use native.Mathlib.Omega.{arith}
 use lib.Seq.{set-out}
 use Rattle.pieces.specs.Texts.{SizeBelow}
-use Rattle.printing.specs.Printing.{TallyBelow, addSize, added, withEnd}
+use Rattle.printing.specs.Passes.{TallyBelow, addSize, added, withEnd}
 use Rattle.printing.specs.declared.Tally.{Tally}
 use borrow.Author.Needs.{needs}
 use Rattle.printing.proofs.add_size.Statement.{statement}

@@ -6,7 +6,7 @@ use native.Mathlib.Omega.{arith}
 use Rattle.parsing.specs.Pieces.{pieceAt}
 use Rattle.parsing.specs.declared.Step.the-variants.{Found}
 use Rattle.parsing.proofs.Progress.{advanced}
-use Rattle.printing.specs.Printing.{Filled}
+use Rattle.printing.specs.Passes.{Filled}
 use Rattle.printing.specs.declared.Outcome.{Outcome}
 use Rattle.printing.proofs.Reached.{past-end}
 use Rattle.printing.proofs.Laying.{Laying, laying-start, laying-out, laying-refused, laying-end, piece-ready, laying-next, glance-next, glance-other, handed-on}

@@ -1,6 +1,6 @@
 -- `printing::outcome_of` meets its contract. Assumes nothing.
 use mathlib.Core.Path.{sym, ap}
-use Rattle.printing.specs.Printing.{outcomeOf}
+use Rattle.printing.specs.Passes.{outcomeOf}
 use Rattle.printing.specs.declared.Tally.{Tally}
 use borrow.Author.Needs.{needs}
 use Rattle.printing.proofs.outcome_of.Statement.{statement}

@@ -2,7 +2,7 @@
 use mathlib.Core.Path.{_≡_, sym, ap, _∙_}
 use native.Mathlib.Nat.{min-eq-left, min-eq-right, le-refl}
 use native.Mathlib.Omega.{arith}
-use Rattle.printing.specs.Printing.{behind}
+use Rattle.printing.specs.Passes.{behind}
 use Rattle.printing.specs.declared.Tally.{Tally}
 use borrow.Author.Needs.{needs}
 use Rattle.printing.proofs.place_behind.Statement.{statement}

@@ -2,7 +2,8 @@
 use mathlib.Core.Path.{_≡_, sym, ap, subst, _∙_}
 use lib.ListN.{length}
 use native.Mathlib.Omega.{arith}
-use Rattle.printing.specs.Printing.{texts, printedText, endsFrom, Filled, within, printed, written}
+use Rattle.printing.specs.Printing.{texts, printedText, endsFrom, within, printed, written}
+use Rattle.printing.specs.Passes.{Filled}
 use Rattle.printing.specs.Demand.{Demanded}
 use Rattle.printing.specs.declared.Outcome.{Outcome}
 use Rattle.printing.proofs.Accepted.{Fitted, fitted, fitted-room}
