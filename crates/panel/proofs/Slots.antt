@@ -9,7 +9,7 @@ use Rattle.writing.specs.Laid.{laid}
 use Rattle.parsing.specs.Listed.{placed}
 use Rattle.rows.specs.Row.{kindsOf}
 use Rattle.rows.proofs.Rows.{AllBytes}
-use Rattle.printing.specs.Printing.{texts, joined, printedText, endsFrom, measured, printed, written}
+use Rattle.printing.specs.Printing.{texts, printedText, endsFrom, measured, printed, written}
 use Rattle.printing.specs.Passes.{Filled}
 use Rattle.printing.specs.Demand.{Demanded}
 use Rattle.printing.specs.declared.Outcome.{Outcome}

@@ -1,12 +1,12 @@
 -- What the next piece is where fixed text, or a plain element, stands at the cursor. Assumes nothing.
-use mathlib.Core.Path.{_≡_, refl, sym, ap, _∙_}
+use mathlib.Core.Path.{_≡_, refl, ap, _∙_}
 use mathlib.Core.Bool.{true, false, not}
 use mathlib.Core.List.{List, _∷_}
-use Prim.Native.Nat.{ℕ, _+_, _-_, _≤_, _<_}
+use Prim.Native.Nat.{ℕ, _+_, _-_, _<_}
 use native.Mathlib.Omega.{arith}
 use lib.Dec.{eqb, ltb}
 use lib.ListN.{length, getD, drop}
-use borrow.Author.Tests.{ltb-true, eqb-true, lt-ltb, le-leb, not-true}
+use borrow.Author.Tests.{ltb-true, eqb-true, not-true}
 use Rattle.writing.proofs.Choose.{both}
 use Rattle.numerals.specs.Params.{paramAt}
 use Rattle.conversions.specs.Letters.{conversionOf}
@@ -16,13 +16,13 @@ use Rattle.specifiers.specs.Flags.{flagOf, flagsFrom}
 use Rattle.specifiers.specs.Specifier.{precisionAt, letterAt, specifierAt}
 use Rattle.specifiers.specs.declared.Specifier.the-variants as S
 use Rattle.specifiers.proofs.Bytes.{byte-at}
-use Rattle.parsing.specs.Pieces.{textLength, passed, used, indexAt, elementOf, afterIndex, afterPercent, pieceAt}
-use Rattle.parsing.specs.declared.Index.the-variants as I
+use Rattle.parsing.specs.Pieces.{textLength, passed, used, isIndex, pieceAt}
 use Rattle.parsing.specs.declared.Piece.the-variants.{Fixed, Element as AnElement}
 use Rattle.parsing.specs.declared.Cursor.{Cursor}
 use Rattle.parsing.specs.declared.Step.the-variants.{Found}
+use Rattle.parsing.proofs.Counted.{Stands, Free, counted-next}
 use Rattle.rows.specs.Row.{isRow, kindsOf, kindByteOf}
-use Rattle.rows.proofs.Rows.{kind-byte, kinds-length}
+use Rattle.rows.proofs.Rows.{next-kind}
 use Rattle.plain.specs.Plain.{isFixed, isLetter, isWhole, isPlainAt, isPlain, plainElement}
 use Rattle.plain.proofs.Cases.{by-letter, by-whole}
 
@@ -65,6 +65,9 @@ plain-tests s ks c e =
       kind = p .1;
     }
 
+stands : (s ks : List ℕ) (c : Cursor) → Plain s ks c → Stands s ks c
+stands s ks c t = record { room = ltb-true (c .pieces) 512 (t .room); counted = t .counted; inside = omega (arith, t .inside); percent = t .percent }
+
 pub fixed-inside : (s : List ℕ) (c : Cursor) → isFixed s c ≡ true → (c .at < length s) × (c .pieces < 512)
 fixed-inside s c e =
     let t = text-tests s c e in
@@ -78,9 +81,7 @@ plain-inside s ks c e =
 pub plain-whole : (s row : List ℕ) (c : Cursor) → isRow row ≡ true → isPlain s (kindsOf row) c ≡ true → isWhole (kindByteOf row (c .count + 1)) ≡ true
 plain-whole s row c kept e =
     let t = plain-tests s (kindsOf row) c e in
-    let n : c .count + 1 - 1 ≡ c .count = omega arith in
-    let k = kind-byte row (c .count + 1) (omega arith) (omega (arith, t .counted, kinds-length row kept)) in
-    ap isWhole (sym k ∙ ap (λ (i : ℕ). getD (kindsOf row) i 0) n) ∙ t .kind
+    ap isWhole (next-kind row kept (c .count) (t .counted)) ∙ t .kind
 
 -- fixed text
 pub fixed-next : (s ks : List ℕ) (c : Cursor) → isFixed s c ≡ true
@@ -113,41 +114,21 @@ module _ (s l : List ℕ) (i : ℕ) where
   letter-read a k b t h =
       by-letter (λ (b : ℕ). drop i s ≡ b ∷ l → specifierAt s i a k ≡ S.Read (plainElement b a) (i + 1)) (decimal-read a k h) (hexadecimal-read a k h) b t
 
-  -- no index
-  no-index : (n b : ℕ) → isLetter b ≡ true → drop i s ≡ b ∷ l → indexAt s i n ≡ I.Named (n + 1) i (n + 1)
-  unfolding indexAt
-  no-index n b t =
-      by-letter (λ (b : ℕ). drop i s ≡ b ∷ l → indexAt s i n ≡ I.Named (n + 1) i (n + 1)) (λ e. simp e) (λ e. simp e) b t
+  -- no index, and neither `%%`, `%n`, `%<` nor `%$`
+  no-index : (b : ℕ) → isLetter b ≡ true → drop i s ≡ b ∷ l → isIndex s i ≡ false
+  no-index b t = by-letter (λ (b : ℕ). drop i s ≡ b ∷ l → isIndex s i ≡ false) (λ e. simp e) (λ e. simp e) b t
 
--- neither `%%`, `%n` nor `%<`
-no-other : (s ks l : List ℕ) (c : Cursor) (b : ℕ) → isLetter b ≡ true → afterPercent s ks c (b ∷ l) ≡ afterIndex s ks c (indexAt s (c .at + 1) (c .count))
-no-other s ks l c b t =
-    by-letter (λ (b : ℕ). afterPercent s ks c (b ∷ l) ≡ afterIndex s ks c (indexAt s (c .at + 1) (c .count))) refl refl b t
-
-module _ (s ks : List ℕ) (c : Cursor) (t : Plain s ks c) where
-  second : drop (c .at + 1) s ≡ getD s (c .at + 1) 0 ∷ drop (c .at + 1 + 1) s
-  second = byte-at s (c .at + 1) (t .inside)
-
-  index-here : afterPercent s ks c (drop (c .at + 1) s) ≡ elementOf s ks c (c .at + 1) (c .count + 1) (c .count + 1) (c .count + 1)
-  index-here =
-      ap (afterPercent s ks c) second
-      ∙ no-other s ks (drop (c .at + 1 + 1) s) c (getD s (c .at + 1) 0) (t .letter)
-      ∙ ap (afterIndex s ks c) (no-index s (drop (c .at + 1 + 1) s) (c .at + 1) (c .count) (getD s (c .at + 1) 0) (t .letter) second)
-
-  element-here : elementOf s ks c (c .at + 1) (c .count + 1) (c .count + 1) (c .count + 1)
-      ≡ Found (AnElement (plainElement (getD s (c .at + 1) 0) (c .count + 1))) (used c (c .at + 2) (c .count + 1) (c .count + 1) (c .count + 1))
-  element-here =
-      let n : c .count + 1 - 1 ≡ c .count = omega arith in
-      let m : c .at + 1 + 1 ≡ c .at + 2 = omega arith in
-      let h : c .count + 1 ≤ length ks = omega (arith, t .counted) in
-      let k : isWhole (getD ks (c .count + 1 - 1) 0) ≡ true = rw n (t .kind) in
-      let r = letter-read s (drop (c .at + 1 + 1) s) (c .at + 1) (c .count + 1) (getD ks (c .count + 1 - 1) 0) (getD s (c .at + 1) 0) (t .letter) k second in
-      simp (le-leb (c .count + 1) (length ks) h, r, m)
+letter-free : (l : List ℕ) (b : ℕ) → isLetter b ≡ true → Free (b ∷ l)
+letter-free l =
+    by-letter (λ (b : ℕ). Free (b ∷ l)) (record { percent = refl; line = refl; same = refl; dollar = refl }) (record { percent = refl; line = refl; same = refl; dollar = refl })
 
 pub plain-next : (s ks : List ℕ) (c : Cursor) → isPlain s ks c ≡ true
     → pieceAt s ks c ≡ Found (AnElement (plainElement (getD s (c .at + 1) 0) (c .count + 1))) (used c (c .at + 2) (c .count + 1) (c .count + 1) (c .count + 1))
-unfolding pieceAt
 plain-next s ks c e =
     let t = plain-tests s ks c e in
-    let h : c .at < length s = omega (arith, t .inside) in
-    simp (lt-ltb (c .at) (length s) h, t .room, byte-at s (c .at) h, t .percent) (index-here s ks c t ∙ element-here s ks c t)
+    let b = getD s (c .at + 1) 0 in
+    let l = drop (c .at + 1 + 1) s in
+    let d : drop (c .at + 1) s ≡ b ∷ l = byte-at s (c .at + 1) (t .inside) in
+    let m : c .at + 1 + 1 ≡ c .at + 2 = omega arith in
+    counted-next s ks c (stands s ks c t) (rw d (letter-free l b (t .letter))) (no-index s l (c .at + 1) b (t .letter) d) (plainElement b (c .count + 1)) (c .at + 2)
+    (letter-read s l (c .at + 1) (c .count + 1) (getD ks (c .count) 0) b (t .letter) (t .kind) d ∙ ap (S.Read (plainElement b (c .count + 1))) m)

@@ -7,12 +7,12 @@ use Prim.Native.Nat.{ℕ, suc, _≤_}
 use native.Mathlib.Nat.{zero-add}
 use native.Mathlib.Omega.{arith}
 use lib.Dec.{eqb}
-use lib.ListN.{length, take, drop}
+use lib.ListN.{length, take}
 use lib.Seq.{take-length}
 use borrow.Author.Tests.{lt-ltb, le-ltb}
 use Rattle.writing.proofs.Choose.{by-test}
 use Rattle.parsing.specs.Pieces.{start, passed, textLength, pieceAt}
-use Rattle.parsing.specs.Listed.{Placed, placedFrom, placed}
+use Rattle.parsing.specs.Listed.{placed}
 use Rattle.parsing.specs.Check.{ended}
 use Rattle.parsing.specs.declared.Ended.the-variants.{Finished}
 use Rattle.parsing.specs.declared.Piece.the-variants.{Fixed}
@@ -20,7 +20,7 @@ use Rattle.parsing.specs.declared.Step.the-variants.{Found}
 use Rattle.rows.specs.Row.{kindsOf, isRow}
 use Rattle.pieces.specs.Texts.{unpadded, stopOf, pieceText}
 use Rattle.texts.proofs.Own.{OwnText}
-use Rattle.printing.specs.Printing.{textsOf, texts, joined, printedText, endsFrom, Stop, firstStop, unlessStopped, measuredEnd, measured}
+use Rattle.printing.specs.Printing.{textsOf, texts, joined, printedText, endsFrom, firstStop, measuredEnd, measured}
 use Rattle.printing.specs.declared.Outcome.the-variants.{Accepted, Refused}
 use Rattle.printing.proofs.Reached.{Reached, reached-start, next-piece, reached-next, reached-end, past-end}
 

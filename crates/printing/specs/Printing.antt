@@ -1,5 +1,5 @@
 -- A row printed, or only measured, under a format. 01, "A row printed, or only measured" and "What stops a call".
-use Prim.Native.Nat.{ℕ, _+_, _%_}
+use Prim.Native.Nat.{ℕ, _+_}
 use mathlib.Core.Bool.{_&&_}
 use mathlib.Core.List.{List, [], _∷_, _++_, map}
 use mathlib.Core.Option.{Option, none, some}

@@ -2,11 +2,11 @@
 use mathlib.Core.Path.{_≡_, refl, sym, ap, _∙_}
 use mathlib.Core.Bool.{Bool, true, false, _&&_}
 use mathlib.Core.List.{List, [], _∷_}
-use Prim.Native.Nat.{ℕ, _+_, _-_, _≤_, _<_}
+use Prim.Native.Nat.{ℕ, _+_, _-_, _<_}
 use native.Mathlib.Omega.{arith}
 use lib.Dec.{leb, ltb, eqb}
 use lib.ListN.{length, getD, drop}
-use borrow.Author.Tests.{ltb-true, eqb-true, lt-ltb, le-leb, ne-eqb}
+use borrow.Author.Tests.{ltb-true, eqb-true, ne-eqb}
 use Rattle.writing.proofs.Choose.{by-test, both}
 use Rattle.numerals.specs.Digits.{numberOf}
 use Rattle.numerals.specs.Params.{isParam, leadingDigits, numberTaken, paramAt}
@@ -27,12 +27,13 @@ use Rattle.specifiers.specs.declared.Specifier.{Specifier}
 use Rattle.specifiers.specs.declared.Specifier.the-variants as S
 use Rattle.specifiers.proofs.Bytes.{byte-at, begins-at, begins-inside}
 use Rattle.specifiers.proofs.Runs.{flags-at}
-use Rattle.parsing.specs.Pieces.{used, isIndex, indexAt, elementOf, afterPercent, pieceAt}
+use Rattle.parsing.specs.Pieces.{used, isIndex, pieceAt}
 use Rattle.parsing.specs.declared.Piece.the-variants.{Element as AnElement}
 use Rattle.parsing.specs.declared.Cursor.{Cursor}
 use Rattle.parsing.specs.declared.Step.the-variants.{Found}
+use Rattle.parsing.proofs.Counted.{Stands, Free, counted-next}
 use Rattle.rows.specs.Row.{isRow, kindsOf, kindByteOf}
-use Rattle.rows.proofs.Rows.{kind-byte, kinds-length}
+use Rattle.rows.proofs.Rows.{next-kind}
 use Rattle.texts.specs.TextColumns.{isBound, widthPlace, atLetter, behindPrecision, behindWidth, columnFrom, isTextNext, columnAt, dashFlags, textElement}
 use Rattle.texts.specs.declared.Column.{Column}
 use Rattle.texts.specs.declared.Column.the-variants.{Text, Other}
@@ -118,11 +119,8 @@ module _ (s : List ℕ) (left : Bool) (at : ℕ) where
 
 -- What the tests of a text that is next say.
 record Next (s ks : List ℕ) (c : Cursor) : Type 0 where
-  room : c .pieces < 512
-  counted : c .count < length ks
+  stands : Stands s ks c
   kind : getD ks (c .count) 0 ≡ 7
-  inside : c .at < length s
-  percent : getD s (c .at) 0 ≡ 37
 
 next-tests : (s ks : List ℕ) (c : Cursor) → isTextNext s ks c ≡ true → Next s ks c
 unfolding isTextNext
@@ -132,19 +130,14 @@ next-tests s ks c e =
     let r = both _ (eqb (getD ks (c .count) 0) 7) (q .0) in
     let t = both (ltb (c .pieces) 512) (ltb (c .count) (length ks)) (r .0) in
     record {
-      room = ltb-true (c .pieces) 512 (t .0);
-      counted = ltb-true (c .count) (length ks) (t .1);
+      stands = record {
+        room = ltb-true (c .pieces) 512 (t .0);
+        counted = ltb-true (c .count) (length ks) (t .1);
+        inside = ltb-true (c .at) (length s) (q .1);
+        percent = eqb-true (getD s (c .at) 0) 37 (p .1);
+      };
       kind = eqb-true (getD ks (c .count) 0) 7 (r .1);
-      inside = ltb-true (c .at) (length s) (q .1);
-      percent = eqb-true (getD s (c .at) 0) 37 (p .1);
     }
-
--- Behind the `%`: neither `%%`, `%n`, `%<` nor `%$`.
-record Free (l : List ℕ) : Type 0 where
-  percent : beginsWith 37 l ≡ false
-  line : beginsWith 110 l ≡ false
-  same : beginsWith 60 l ≡ false
-  dollar : beginsWith 36 l ≡ false
 
 bound-free : (b : ℕ) (l : List ℕ) → isBound b ≡ true → Free (b ∷ l)
 bound-free b l h = record {
@@ -164,21 +157,10 @@ SameIf s ks c (Text left w p n) = Same s ks c left w p n
 SameIf s ks c Other = Unit {0}
 
 module _ (s ks : List ℕ) (c : Cursor) (t : Next s ks c) where
-  percent-here : pieceAt s ks c ≡ afterPercent s ks c (drop (c .at + 1) s)
-  unfolding pieceAt
-  percent-here = simp (lt-ltb (c .at) (length s) (t .inside), lt-ltb (c .pieces) 512 (t .room), byte-at s (c .at) (t .inside), t .percent)
-
-  index-here : Free (drop (c .at + 1) s) → isIndex s (c .at + 1) ≡ false
-      → pieceAt s ks c ≡ elementOf s ks c (c .at + 1) (c .count + 1) (c .count + 1) (c .count + 1)
-  unfolding indexAt
-  index-here f e = percent-here ∙ simp (f .percent, f .line, f .same, f .dollar, e)
-
   element-here : (x : Column) → Free (drop (c .at + 1) s) → NoIndex s (c .at + 1) x → Reads (c .count + 1) (specifierAt s (c .at + 1) (c .count + 1) 7) x → SameIf s ks c x
   element-here Other f e r = tt
   element-here (Text left w p n) f e r =
-      let m : c .count + 1 - 1 ≡ c .count = omega arith in
-      let h : c .count + 1 ≤ length ks = omega (arith, t .counted) in
-      record { tests = t; piece = index-here f e ∙ simp (le-leb (c .count + 1) (length ks) h, m, t .kind, r) }
+      record { tests = t; piece = counted-next s ks c (t .stands) f e (textElement left w p (c .count + 1)) n (ap (specifierAt s (c .at + 1) (c .count + 1)) (t .kind) ∙ r) }
 
   -- with a `-`, and without
   flags-end : (at : ℕ) (f : Flags) → at < length s → isBound (getD s at 0) ≡ true → flagsFrom (drop at s) at f ≡ F.Read f at
@@ -232,12 +214,10 @@ pub column-inside : (s ks : List ℕ) (c : Cursor) (left : Bool) (w p : NumericP
     → (c .pieces < 512) × (c .count < length ks)
 column-inside s ks c left w p n e =
     let t = column-same s ks c left w p n e .tests in
-    (t .room, t .counted)
+    (t .stands .room, t .stands .counted)
 
 pub column-kind : (s row : List ℕ) (c : Cursor) (left : Bool) (w p : NumericParam) (n : ℕ) → isRow row ≡ true
     → columnAt s (kindsOf row) c ≡ Text left w p n → kindByteOf row (c .count + 1) ≡ 7
 column-kind s row c left w p n kept e =
     let t = column-same s (kindsOf row) c left w p n e .tests in
-    let m : c .count + 1 - 1 ≡ c .count = omega arith in
-    let k = kind-byte row (c .count + 1) (omega arith) (omega (arith, t .counted, kinds-length row kept)) in
-    sym k ∙ ap (λ (i : ℕ). getD (kindsOf row) i 0) m ∙ t .kind
+    next-kind row kept (c .count) (t .stands .counted) ∙ t .kind

@@ -4,10 +4,9 @@ use mathlib.Core.Path.{_≡_, refl, sym, ap, _∙_}
 use mathlib.Core.List.{List}
 use lib.ListN.{length}
 use native.Mathlib.Omega.{arith}
-use borrow.Rule.Slice.PartAt.{part-to-end}
 use Rattle.writing.specs.Laid.{laid}
 use Rattle.rows.specs.Row.{rowOf}
-use Rattle.rows.proofs.Rows.{row-read, row-broken}
+use Rattle.rows.proofs.Rows.{row-whole, row-read, row-broken}
 use Rattle.texts.proofs.Own.{own-text}
 use Rattle.printing.specs.Printing.{texts, printedText, endsFrom, within, printed, written}
 use Rattle.printing.specs.declared.Outcome.{Outcome}
@@ -32,7 +31,7 @@ read-row-requires c κs = search needs
 
 -- the row, handed on whole
 handed : (c : tie.After-read-row) → c .read-row .result ≡ rowOf (c .before .before .before .before .before .before .args .row .now)
-handed c = c .read-row .ensures ∙ ap rowOf (part-to-end (c .before .before .before .before .before .before .args .row .now) 0)
+handed c = c .read-row .ensures ∙ row-whole (c .before .before .before .before .before .before .args .row .now)
 
 enum-told : tie.Need-enum-told
 enum-told c = search needs

@@ -1,7 +1,6 @@
 -- `printing::lay_pieces` meets its contract. Both ways to go on cite one law, laying-next, with the piece that was found. Assumes nothing.
-use Prim.Native.Nat.{ℕ, _+_, _-_, _<_}
+use Prim.Native.Nat.{_-_}
 use mathlib.Core.Path.{_≡_, sym, subst, _∙_}
-use mathlib.Core.List.{List}
 use native.Mathlib.Omega.{arith}
 use Rattle.parsing.specs.Pieces.{pieceAt}
 use Rattle.parsing.specs.declared.Step.the-variants.{Found}

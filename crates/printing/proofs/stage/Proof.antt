@@ -5,9 +5,8 @@ use mathlib.Core.Bool.{true}
 use lib.ListN.{take, drop}
 use native.Mathlib.Omega.{arith}
 use borrow.Author.Tests.{lt-ltb, le-ltb, not-true, not-false}
-use borrow.Rule.Slice.PartAt.{part-to-end}
 use Rattle.rows.specs.Row.{countOf, isRow, rowOf}
-use Rattle.rows.proofs.Rows.{row-shape, row-read, row-broken}
+use Rattle.rows.proofs.Rows.{row-shape, row-whole, row-read, row-broken}
 use Rattle.printing.specs.Printing.{measured}
 use borrow.Author.Needs.{needs}
 use Rattle.printing.proofs.stage.Statement.{statement}
@@ -44,7 +43,7 @@ enum-told c = search needs
 
 -- the row, handed on whole
 handed : (c : tie.After-read-row) → c .read-row .result ≡ rowOf (c .before .before .before .before .before .before .before .before .before .args .row .now)
-handed c = c .read-row .ensures ∙ ap rowOf (part-to-end (c .before .before .before .before .before .before .before .before .before .args .row .now) 0)
+handed c = c .read-row .ensures ∙ row-whole (c .before .before .before .before .before .before .before .before .before .args .row .now)
 
 returns-3 : tie.Need-returns-3
 unfolding measured
