@@ -11,7 +11,7 @@ ghost use Rattle.printing.specs.Printing.{texts, printedText, endsFrom, measure
 ghost use Rattle.printing.specs.Demand.{Demanded};
 ghost use Rattle.printing.specs.declared.Outcome.the-variants.{Accepted};
 ghost use Rattle.writing.specs.Laid.{laid};
-ghost use Rattle.texts.specs.TextColumns.{isOwnText};
+ghost use Rattle.texts.specs.TextColumns.{isTextAlone};
 ghost use Rattle.panel.specs.Entries.{checkAnswer, printAnswer, endBytes, allBytes, endsRead, Holds, Prints};
 
 // number is 0 where the format is accepted; else it is the refusal's, with its place.
@@ -151,8 +151,8 @@ fn print_accepted<'a>(
 }
 
 // Prints a format that is text alone: one piece, copied.
-fn print_own<'a>(fmt: &'a [u8], row: &'a [u8], out: &mut [u8], ends: &mut [u8]) -> Outcome
-    requires { ⌜ isOwnText (now fmt) ≡ true ⌝ }
+fn print_alone<'a>(fmt: &'a [u8], row: &'a [u8], out: &mut [u8], ends: &mut [u8]) -> Outcome
+    requires { ⌜ isTextAlone (now fmt) ≡ true ⌝ }
     ensures { λ r. ⌜ Prints (now (fmt .entry)) (now (row .entry)) (now (out .entry)) (now (ends .entry)) r (now (out .exit)) (now (ends .exit)) ⌝ }
 {
     let RowRead::Row { count: _ } = rows::read_row(&row[0..]) else {
@@ -209,8 +209,8 @@ pub extern "C" fn panel_print<'a>(
     ensures { λ r. ⌜ now (ends .exit) ≡ written (printed (now (fmt .entry)) (now (row .entry)) (length (now (out .entry))) (length (now (ends .entry)) / 4)) (now (ends .entry)) (allBytes (endsFrom 0 (texts (now (fmt .entry)) (now (row .entry))))) ⌝ }
     ensures { λ r. ⌜ Demanded (now (fmt .entry)) (now (row .entry)) (printed (now (fmt .entry)) (now (row .entry)) (length (now (out .entry))) (length (now (ends .entry)) / 4)) (now (out .exit)) (endsRead (now (ends .exit))) ⌝ }
 {
-    if texts::is_own_text(fmt) {
-        return print_answer(print_own(fmt, row, out, ends));
+    if texts::is_text_alone(fmt) {
+        return print_answer(print_alone(fmt, row, out, ends));
     }
     print_answer(print_staged(fmt, row, out, ends))
 }

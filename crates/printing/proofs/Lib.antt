@@ -4,5 +4,5 @@ pub mod Tallies
 pub mod Accepted
 pub mod Behind
 pub mod Laying
-pub mod Own
+pub mod Alone
 pub mod Demand

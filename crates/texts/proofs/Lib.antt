@@ -1,3 +1,3 @@
 pub mod Next
-pub mod Own
+pub mod Alone
 pub mod Texts

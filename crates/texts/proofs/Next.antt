@@ -34,7 +34,7 @@ use Rattle.parsing.specs.declared.Step.the-variants.{Found}
 use Rattle.parsing.proofs.Counted.{Stands, Free, counted-next}
 use Rattle.rows.specs.Row.{isRow, kindsOf, kindByteOf}
 use Rattle.rows.proofs.Rows.{next-kind}
-use Rattle.texts.specs.TextColumns.{isBound, widthPlace, atLetter, behindPrecision, behindWidth, columnFrom, isTextNext, columnAt, dashFlags, textElement}
+use Rattle.texts.specs.TextColumns.{beginsColumn, widthPlace, atLetter, behindPrecision, behindWidth, columnFrom, isTextNext, columnAt, dashFlags, textElement}
 use Rattle.texts.specs.declared.Column.{Column}
 use Rattle.texts.specs.declared.Column.the-variants.{Text, Other}
 
@@ -46,10 +46,10 @@ and-false true u e = e
 and-false false u e = refl
 
 -- a byte that can begin the width is none that cannot, and no flag
-other-byte : (b d : ℕ) → isBound b ≡ true → isBound d ≡ false → eqb b d ≡ false
-other-byte b d h n = ne-eqb b d (λ e. never (sym h ∙ ap isBound e ∙ n))
+other-byte : (b d : ℕ) → beginsColumn b ≡ true → beginsColumn d ≡ false → eqb b d ≡ false
+other-byte b d h n = ne-eqb b d (λ e. never (sym h ∙ ap beginsColumn e ∙ n))
 
-no-flag : (f : Flags) (b : ℕ) → isBound b ≡ true → flagOf f b ≡ Ends
+no-flag : (f : Flags) (b : ℕ) → beginsColumn b ≡ true → flagOf f b ≡ Ends
 unfolding flagOf
 no-flag f b h =
     simp (other-byte b 35 h refl, other-byte b 48 h refl, other-byte b 45 h refl, other-byte b 32 h refl, other-byte b 43 h refl, other-byte b 44 h refl, other-byte b 40 h refl)
@@ -139,8 +139,8 @@ next-tests s ks c e =
       kind = eqb-true (getD ks (c .count) 0) 7 (r .1);
     }
 
-bound-free : (b : ℕ) (l : List ℕ) → isBound b ≡ true → Free (b ∷ l)
-bound-free b l h = record {
+begins-free : (b : ℕ) (l : List ℕ) → beginsColumn b ≡ true → Free (b ∷ l)
+begins-free b l h = record {
   percent = other-byte b 37 h refl;
   line = other-byte b 110 h refl;
   same = other-byte b 60 h refl;
@@ -163,12 +163,12 @@ module _ (s ks : List ℕ) (c : Cursor) (t : Next s ks c) where
       record { tests = t; piece = counted-next s ks c (t .stands) f e (textElement left w p (c .count + 1)) n (ap (specifierAt s (c .at + 1) (c .count + 1)) (t .kind) ∙ r) }
 
   -- with a `-`, and without
-  flags-end : (at : ℕ) (f : Flags) → at < length s → isBound (getD s at 0) ≡ true → flagsFrom (drop at s) at f ≡ F.Read f at
+  flags-end : (at : ℕ) (f : Flags) → at < length s → beginsColumn (getD s at 0) ≡ true → flagsFrom (drop at s) at f ≡ F.Read f at
   flags-end at f h b = flags-at s at f h ∙ simp (no-flag f (getD s at 0) b)
 
-  undashed : c .at + 1 < length s → isBound (getD s (c .at + 1) 0) ≡ true → SameIf s ks c (behindWidth s false (paramAt false s (c .at + 1)))
+  undashed : c .at + 1 < length s → beginsColumn (getD s (c .at + 1) 0) ≡ true → SameIf s ks c (behindWidth s false (paramAt false s (c .at + 1)))
   undashed h b =
-      let free = bound-free (getD s (c .at + 1) 0) (drop (c .at + 1 + 1) s) b in
+      let free = begins-free (getD s (c .at + 1) 0) (drop (c .at + 1 + 1) s) b in
       element-here (behindWidth s false (paramAt false s (c .at + 1))) (rw (byte-at s (c .at + 1) h) free) (no-index s false (c .at + 1))
       (flags-read s false (c .count + 1) (c .at + 1) (c .at + 1) (flags-end (c .at + 1) noFlags h b))
 
@@ -180,7 +180,7 @@ module _ (s ks : List ℕ) (c : Cursor) (t : Next s ks c) where
       let e = eqb-true (getD s (c .at + 1) 0) 45 (sym (begins-at s (c .at + 1) 45 i) ∙ d) in
       (byte-at s (c .at + 1) i ∙ ap (λ (b : ℕ). b ∷ drop (c .at + 1 + 1) s) e, flags-at s (c .at + 1) noFlags i ∙ simp e)
 
-  dashed : beginsWith 45 (drop (c .at + 1) s) ≡ true → c .at + 1 + 1 < length s → isBound (getD s (c .at + 1 + 1) 0) ≡ true
+  dashed : beginsWith 45 (drop (c .at + 1) s) ≡ true → c .at + 1 + 1 < length s → beginsColumn (getD s (c .at + 1 + 1) 0) ≡ true
       → SameIf s ks c (behindWidth s true (paramAt false s (c .at + 1 + 1)))
   dashed d h b =
       let e = dash-read d in
@@ -191,11 +191,11 @@ module _ (s ks : List ℕ) (c : Cursor) (t : Next s ks c) where
   from-here : (left : Bool) → beginsWith 45 (drop (c .at + 1) s) ≡ left → SameIf s ks c (columnFrom s left (widthPlace (c .at + 1) left))
   unfolding columnFrom
   from-here true d =
-      by-test (SameIf s ks c) (ltb (c .at + 1 + 1) (length s) && isBound (getD s (c .at + 1 + 1) 0)) _ _
-      (λ e. let p = both (ltb (c .at + 1 + 1) (length s)) (isBound (getD s (c .at + 1 + 1) 0)) e in dashed d (ltb-true (c .at + 1 + 1) (length s) (p .0)) (p .1)) (λ _. tt)
+      by-test (SameIf s ks c) (ltb (c .at + 1 + 1) (length s) && beginsColumn (getD s (c .at + 1 + 1) 0)) _ _
+      (λ e. let p = both (ltb (c .at + 1 + 1) (length s)) (beginsColumn (getD s (c .at + 1 + 1) 0)) e in dashed d (ltb-true (c .at + 1 + 1) (length s) (p .0)) (p .1)) (λ _. tt)
   from-here false d =
-      by-test (SameIf s ks c) (ltb (c .at + 1) (length s) && isBound (getD s (c .at + 1) 0)) _ _
-      (λ e. let p = both (ltb (c .at + 1) (length s)) (isBound (getD s (c .at + 1) 0)) e in undashed (ltb-true (c .at + 1) (length s) (p .0)) (p .1)) (λ _. tt)
+      by-test (SameIf s ks c) (ltb (c .at + 1) (length s) && beginsColumn (getD s (c .at + 1) 0)) _ _
+      (λ e. let p = both (ltb (c .at + 1) (length s)) (beginsColumn (getD s (c .at + 1) 0)) e in undashed (ltb-true (c .at + 1) (length s) (p .0)) (p .1)) (λ _. tt)
 
 same : (s ks : List ℕ) (c : Cursor) → SameIf s ks c (columnAt s ks c)
 unfolding columnAt

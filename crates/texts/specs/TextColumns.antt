@@ -22,8 +22,8 @@ use Rattle.texts.specs.declared.Column.{Column}
 use Rattle.texts.specs.declared.Column.the-variants.{Text, Other}
 
 -- What can stand behind `%`, or behind `%-`, in such a column: a digit from 1 to 9, `.` or `s`.
-abbrev pub isBound : ℕ → Bool
-isBound b = (leb 49 b && leb b 57) || (eqb b 46 || eqb b 115)
+abbrev pub beginsColumn : ℕ → Bool
+beginsColumn b = (leb 49 b && leb b 57) || (eqb b 46 || eqb b 115)
 
 -- Where the width begins: behind the `-`, if there is one.
 abbrev pub widthPlace : ℕ → Bool → ℕ
@@ -43,7 +43,7 @@ behindWidth s left (Param w at) = behindPrecision s left w (precisionAt s at)
 behindWidth s left TooLarge = Other
 
 unfoldable pub columnFrom : List ℕ → Bool → ℕ → Column
-columnFrom s left at = choose (ltb at (length s) && isBound (getD s at 0)) (λ _. behindWidth s left (paramAt false s at)) (λ _. Other)
+columnFrom s left at = choose (ltb at (length s) && beginsColumn (getD s at 0)) (λ _. behindWidth s left (paramAt false s at)) (λ _. Other)
 
 -- Whether a `%` stands at the cursor, is not of a 513th piece, and the next argument of the running count is a text.
 unfoldable pub isTextNext : List ℕ → List ℕ → Cursor → Bool
@@ -72,8 +72,8 @@ padded true pad t = t ++ spaces pad
 padded false pad t = spaces pad ++ t
 
 -- ASCII without `%`; a format of such bytes, not empty and not over-long, is text alone.
-unfoldable pub areOwn : List ℕ → Bool
-areOwn s = eqb (textLength s) (length s) && ltb (largestOf s) 128
+unfoldable pub isAsciiText : List ℕ → Bool
+isAsciiText s = eqb (textLength s) (length s) && ltb (largestOf s) 128
 
-unfoldable pub isOwnText : List ℕ → Bool
-isOwnText s = leb 1 (length s) && leb (length s) 4096 && areOwn s
+unfoldable pub isTextAlone : List ℕ → Bool
+isTextAlone s = leb 1 (length s) && leb (length s) 4096 && isAsciiText s

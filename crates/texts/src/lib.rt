@@ -13,7 +13,7 @@ ghost use Rattle.specifiers.specs.Specifier.{beginsWith};
 ghost use Rattle.parsing.specs.declared.Piece.the-variants as P;
 ghost use Rattle.rows.specs.Row.{kindByteOf};
 ghost use Rattle.pieces.specs.Texts.{Ready, pieceText, sizeOf, SizeBelow};
-ghost use Rattle.texts.specs.TextColumns.{isBound, columnFrom, widthPlace, columnAt, textElement, padding, padded, areOwn, isOwnText};
+ghost use Rattle.texts.specs.TextColumns.{beginsColumn, columnFrom, widthPlace, columnAt, textElement, padding, padded, isAsciiText, isTextAlone};
 
 // A column of text and the place behind it, or anything else.
 pub enum Column {
@@ -27,8 +27,8 @@ pub enum Column {
 }
 
 // Whether a byte can stand behind `%`, or behind `%-`, in such a column: a digit from 1 to 9, `.` or `s`.
-fn is_bound(b: u8) -> bool
-    ensures { λ r. ⌜ r ≡ isBound b ⌝ }
+fn begins_column(b: u8) -> bool
+    ensures { λ r. ⌜ r ≡ beginsColumn b ⌝ }
 {
     if b == 46 {
         return true;
@@ -49,7 +49,7 @@ fn column_from(fmt: &[u8], left: bool, at: usize) -> Column
     if fmt.len() <= at {
         return Column::Other;
     }
-    if !is_bound(fmt[at]) {
+    if !begins_column(fmt[at]) {
         return Column::Other;
     }
     let Taken::Param {
@@ -165,8 +165,8 @@ pub fn put_column<'a>(
 }
 
 // Whether all bytes are below 128 and none is `%`. The loop has no way out, so that it can be compiled to operations on blocks.
-fn are_own(fmt: &[u8]) -> bool
-    ensures { λ r. ⌜ r ≡ areOwn (now (fmt .entry)) ⌝ }
+fn is_ascii_text(fmt: &[u8]) -> bool
+    ensures { λ r. ⌜ r ≡ isAsciiText (now (fmt .entry)) ⌝ }
 {
     let mut top: u8 = 0;
     let mut percent = false;
@@ -185,8 +185,8 @@ fn are_own(fmt: &[u8]) -> bool
 }
 
 // Whether a format is text alone, in ASCII: not empty, not over-long, and without `%`.
-pub fn is_own_text(fmt: &[u8]) -> bool
-    ensures { λ r. ⌜ r ≡ isOwnText (now (fmt .entry)) ⌝ }
+pub fn is_text_alone(fmt: &[u8]) -> bool
+    ensures { λ r. ⌜ r ≡ isTextAlone (now (fmt .entry)) ⌝ }
 {
     if fmt.len() < 1 {
         return false;
@@ -197,5 +197,5 @@ pub fn is_own_text(fmt: &[u8]) -> bool
     if fmt[0] == 37 {
         return false;
     }
-    are_own(fmt)
+    is_ascii_text(fmt)
 }

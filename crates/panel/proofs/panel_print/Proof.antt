@@ -6,11 +6,11 @@ use borrow.Author.Needs.{needs}
 use Rattle.panel.proofs.panel_print.Statement.{statement}
 use Rattle.panel.proofs.panel_print.Tie as tie
 
-is-own-text-requires : tie.Need-is-own-text-requires
-is-own-text-requires c κs = search needs
+is-text-alone-requires : tie.Need-is-text-alone-requires
+is-text-alone-requires c κs = search needs
 
-print-own-requires : tie.Need-print-own-requires
-print-own-requires c κs = sym (c .before .before .before .is-own-text .ensures) ∙ c .before .before .if1 .taken
+print-alone-requires : tie.Need-print-alone-requires
+print-alone-requires c κs = sym (c .before .before .before .is-text-alone .ensures) ∙ c .before .before .if1 .taken
 
 print-answer-requires : tie.Need-print-answer-requires
 print-answer-requires c κs = search needs
@@ -24,7 +24,7 @@ same-length-2 c = search needs
 returns : tie.Need-returns
 returns c =
     let w = c .before .before .before .before .before .before .before .before .before .before .before .before .before .before .args in
-    prints (w .fmt .now) (w .row .now) (w .out .now) (w .ends .now) _ _ _ (c .before .before .before .before .before .print-own .ensures) (λ i. omega (arith, c .before .before .before .before .before .before .before .before .before .before .before .before .shared-slice-known2 .given i)) _ (c .print-answer .ensures)
+    prints (w .fmt .now) (w .row .now) (w .out .now) (w .ends .now) _ _ _ (c .before .before .before .before .before .print-alone .ensures) (λ i. omega (arith, c .before .before .before .before .before .before .before .before .before .before .before .before .shared-slice-known2 .given i)) _ (c .print-answer .ensures)
 
 print-staged-requires : tie.Need-print-staged-requires
 print-staged-requires c κs = search needs
@@ -47,8 +47,8 @@ pub panel-print-spec : {M : Type 1} → statement M
 panel-print-spec =
     tie.close
     (tie.spec
-    is-own-text-requires
-    print-own-requires
+    is-text-alone-requires
+    print-alone-requires
     print-answer-requires
     same-length
     same-length-2

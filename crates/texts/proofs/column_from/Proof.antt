@@ -19,26 +19,26 @@ begun c = c .before .before .before .before .before
 abbrev column : tie.Start → Column
 column c = columnFrom (c .args .fmt .now) (c .args .left) (c .args .at)
 
-bound-here : (c : tie.Else2) → column (begun c) ≡ behindWidth (begun c .args .fmt .now) (begun c .args .left) (paramAt false (begun c .args .fmt .now) (begun c .args .at))
+begins-here : (c : tie.Else2) → column (begun c) ≡ behindWidth (begun c .args .fmt .now) (begun c .args .left) (paramAt false (begun c .args .fmt .now) (begun c .args .at))
 unfolding columnFrom
-bound-here c = simp (lt-ltb _ _ (c .before .before .before .if1 .left), ← c .before .is-bound .ensures, not-false (c .before .is-bound .result) (c .if2 .left))
+begins-here c = simp (lt-ltb _ _ (c .before .before .before .if1 .left), ← c .before .begins-column .ensures, not-false (c .before .begins-column .result) (c .if2 .left))
 
 width-here : (c : tie.After-known-told) → let b = begun (c .before .before .before .before) in column b ≡ behindPrecision (b .args .fmt .now) (b .args .left) (c .before .width .given .0 .0) (precisionAt (b .args .fmt .now) (c .before .width .given .0 .1 .0))
-width-here c = bound-here (c .before .before .before .before) ∙ simp (← c .before .before .before .take-numeric-param .ensures, c .before .width .given .1)
+width-here c = begins-here (c .before .before .before .before) ∙ simp (← c .before .before .before .take-numeric-param .ensures, c .before .width .given .1)
 
 returns : tie.Need-returns
 unfolding columnFrom
 returns c = simp (le-ltb _ _ (c .if1 .taken))
 
-shared-slice-read-is-bound : tie.Need-shared-slice-read-is-bound
-shared-slice-read-is-bound c = search needs
+shared-slice-read-begins-column : tie.Need-shared-slice-read-begins-column
+shared-slice-read-begins-column c = search needs
 
-is-bound-requires : tie.Need-is-bound-requires
-is-bound-requires c κs = search needs
+begins-column-requires : tie.Need-begins-column-requires
+begins-column-requires c κs = search needs
 
 returns-2 : tie.Need-returns-2
 unfolding columnFrom
-returns-2 c = simp (lt-ltb _ _ (c .before .before .before .if1 .left), ← c .before .is-bound .ensures, not-true (c .before .is-bound .result) (c .if2 .taken))
+returns-2 c = simp (lt-ltb _ _ (c .before .before .before .if1 .left), ← c .before .begins-column .ensures, not-true (c .before .begins-column .result) (c .if2 .taken))
 
 take-numeric-param-requires : tie.Need-take-numeric-param-requires
 take-numeric-param-requires c κs = search needs
@@ -50,7 +50,7 @@ enum-told : tie.Need-enum-told
 enum-told c = search needs
 
 returns-3 : tie.Need-returns-3
-returns-3 c = sym (bound-here (c .before .before .before) ∙ simp (← c .before .before .take-numeric-param .ensures, c .enum-told .given .1))
+returns-3 c = sym (begins-here (c .before .before .before) ∙ simp (← c .before .before .take-numeric-param .ensures, c .enum-told .given .1))
 
 take-precision-requires : tie.Need-take-precision-requires
 take-precision-requires c κs = search needs
@@ -81,8 +81,8 @@ column-from-spec =
     tie.close
     (tie.spec
     returns
-    shared-slice-read-is-bound
-    is-bound-requires
+    shared-slice-read-begins-column
+    begins-column-requires
     returns-2
     take-numeric-param-requires
     enum-known-width

@@ -13,18 +13,18 @@ use Rattle.utf8.proofs.Laws.{ascii, below-ascii}
 use Rattle.parsing.specs.Pieces.{textLength}
 use Rattle.parsing.proofs.Runs.{text-ends, text-percent}
 use Rattle.parsing.proofs.Blocks.{text-past, block-percent, block-more}
-use Rattle.texts.specs.TextColumns.{areOwn, isOwnText}
+use Rattle.texts.specs.TextColumns.{isAsciiText, isTextAlone}
 
-pub record OwnText (s : List ℕ) : Type 0 where
+pub record TextAlone (s : List ℕ) : Type 0 where
   pub some : 1 ≤ length s
   pub short : length s ≤ 4096
   pub text : textLength s ≡ length s
   pub formed : wellFormed s ≡ true
 
-pub own-text : (s : List ℕ) → isOwnText s ≡ true → OwnText s
-unfolding isOwnText areOwn
-own-text s e =
-    let p = both _ (areOwn s) e in
+pub text-alone : (s : List ℕ) → isTextAlone s ≡ true → TextAlone s
+unfolding isTextAlone isAsciiText
+text-alone s e =
+    let p = both _ (isAsciiText s) e in
     let q = both (leb 1 (length s)) (leb (length s) 4096) (p .0) in
     let r = both (eqb (textLength s) (length s)) (ltb (largestOf s) 128) (p .1) in
     record {
@@ -43,20 +43,20 @@ module _ (s : List ℕ) (i : ℕ) (h : i < length s) where
   turn-other n = let z : 0 + i ≡ i = omega arith in block-more s 0 i (omega arith) (λ e. n (rw z at e))
 
 -- a `%` was seen up to the end of a text, or at its start, or none
-pub percent-seen : (s : List ℕ) (i : ℕ) → i ≡ length s → ltb (textLength s) i ≡ true → areOwn s ≡ false
-unfolding areOwn
+pub percent-seen : (s : List ℕ) (i : ℕ) → i ≡ length s → ltb (textLength s) i ≡ true → isAsciiText s ≡ false
+unfolding isAsciiText
 percent-seen s i n e =
     let h = ltb-true (textLength s) i e in
     simp (ne-eqb (textLength s) (length s) (λ q. omega arith))
 
-pub percent-first : (s : List ℕ) → 0 < length s → getD s 0 0 ≡ 37 → areOwn s ≡ false
-unfolding areOwn
+pub percent-first : (s : List ℕ) → 0 < length s → getD s 0 0 ≡ 37 → isAsciiText s ≡ false
+unfolding isAsciiText
 percent-first s h e =
     let z : textLength s ≡ 0 = text-percent s 0 h e in
     simp (ne-eqb (textLength s) (length s) (λ q. omega arith))
 
-pub none-seen : (s : List ℕ) (i : ℕ) → i ≡ length s → ltb (textLength s) i ≡ false → areOwn s ≡ ltb (largestOf s) 128
-unfolding areOwn
+pub none-seen : (s : List ℕ) (i : ℕ) → i ≡ length s → ltb (textLength s) i ≡ false → isAsciiText s ≡ ltb (largestOf s) 128
+unfolding isAsciiText
 none-seen s i n e =
     let k : i ≤ textLength s = ltb-false (textLength s) i e in
     let h : length s ≤ textLength s = omega arith in

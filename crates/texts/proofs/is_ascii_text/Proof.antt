@@ -1,4 +1,4 @@
--- `texts::are_own` meets its contract. Assumes nothing.
+-- `texts::is_ascii_text` meets its contract. Assumes nothing.
 use Prim.Native.Nat.{ℕ, _+_, _-_, _≤_, _<_, max}
 use mathlib.Core.Path.{_≡_, sym, ap, _∙_}
 use mathlib.Core.Logic.{⊎-elim}
@@ -8,11 +8,11 @@ use native.Mathlib.Omega.{arith}
 use Rattle.utf8.specs.Utf8.{largestOf}
 use Rattle.utf8.proofs.Laws.{largest-more, largest-end}
 use Rattle.parsing.specs.Pieces.{textLength}
-use Rattle.texts.proofs.Own.{turn-percent, turn-other, percent-seen, none-seen}
+use Rattle.texts.proofs.Alone.{turn-percent, turn-other, percent-seen, none-seen}
 use borrow.Author.Tests.{le-ltb}
 use borrow.Author.Needs.{needs}
-use Rattle.texts.proofs.are_own.Statement.{statement}
-use Rattle.texts.proofs.are_own.Tie as tie
+use Rattle.texts.proofs.is_ascii_text.Statement.{statement}
+use Rattle.texts.proofs.is_ascii_text.Tie as tie
 
 abbrev Inv-loop : tie.InvT-loop
 Inv-loop fmt top₀ percent₀ i₀ top percent i = (i ≤ length fmt) × (max top (largestOf (drop i fmt)) ≡ largestOf fmt) × (top < 256) × (percent ≡ ltb (textLength fmt) i)
@@ -67,8 +67,8 @@ returns-2 c =
     let t = sym (largest-end s (l .i) (l .top) (omega arith)) ∙ l .inv .1 in
     ap (λ (k : ℕ). ltb k 128) t ∙ sym (none-seen s (l .i) n (sym (l .inv .3) ∙ c .if2 .left))
 
-pub are-own-spec : {M : Type 1} → statement M
-are-own-spec =
+pub is-ascii-text-spec : {M : Type 1} → statement M
+is-ascii-text-spec =
     tie.close
     (tie.spec
     Inv-loop

@@ -1,4 +1,4 @@
--- `panel::print_own` meets its contract. Assumes nothing.
+-- `panel::print_alone` meets its contract. Assumes nothing.
 use Prim.Native.Nat.{ℕ, _/_, _≤_}
 use mathlib.Core.Path.{_≡_, refl, sym, ap, _∙_}
 use mathlib.Core.List.{List}
@@ -7,15 +7,15 @@ use native.Mathlib.Omega.{arith}
 use Rattle.writing.specs.Laid.{laid}
 use Rattle.rows.specs.Row.{rowOf}
 use Rattle.rows.proofs.Rows.{row-whole, row-read, row-broken}
-use Rattle.texts.proofs.Own.{own-text}
+use Rattle.texts.proofs.Alone.{text-alone}
 use Rattle.printing.specs.Printing.{texts, printedText, endsFrom, within, printed, written}
 use Rattle.printing.specs.declared.Outcome.{Outcome}
 use Rattle.printing.proofs.Accepted.{fitted}
-use Rattle.printing.proofs.Own.{own-printed, own-ends, own-count, own-measured, own-broken}
+use Rattle.printing.proofs.Alone.{alone-printed, alone-ends, alone-count, alone-measured, alone-broken}
 use Rattle.panel.specs.Entries.{allBytes}
 use borrow.Author.Needs.{needs}
-use Rattle.panel.proofs.print_own.Statement.{statement}
-use Rattle.panel.proofs.print_own.Tie as tie
+use Rattle.panel.proofs.print_alone.Statement.{statement}
+use Rattle.panel.proofs.print_alone.Tie as tie
 
 sub-read-row : tie.Need-sub-read-row
 sub-read-row c = search needs
@@ -45,7 +45,7 @@ returns c =
     let w = c .before .before .before .before .before .before .before .before .args in
     let b = row-broken (w .row .now) (sym (handed (c .before .before)) ∙ c .enum-told2 .given .1) in
     record {
-      answer = sym (ap (within (length (w .out .now)) (length (w .ends .now) / 4)) (own-broken (w .fmt .now) (w .row .now) (own-text (w .fmt .now) (c .before .before .before .before .before .before .before .before .pre)) b));
+      answer = sym (ap (within (length (w .out .now)) (length (w .ends .now) / 4)) (alone-broken (w .fmt .now) (w .row .now) (text-alone (w .fmt .now) (c .before .before .before .before .before .before .before .before .pre)) b));
       bytes = refl;
       slots = refl;
     }
@@ -59,7 +59,7 @@ unfolding printed
 answered c =
     let w = c .before .before .before .before .before .before .before .before .before .args in
     let k = row-read (w .row .now) _ (sym (handed (c .before .before .before)) ∙ c .before .enum-told .given .1) .0 in
-    c .fit .ensures ∙ ap (within (length (w .out .now)) (length (w .ends .now) / 4)) (sym (own-measured (w .fmt .now) (w .row .now) (own-text (w .fmt .now) (c .before .before .before .before .before .before .before .before .before .pre)) k))
+    c .fit .ensures ∙ ap (within (length (w .out .now)) (length (w .ends .now) / 4)) (sym (alone-measured (w .fmt .now) (w .row .now) (text-alone (w .fmt .now) (c .before .before .before .before .before .before .before .before .before .pre)) k))
 
 enum-told-3 : tie.Need-enum-told-3
 enum-told-3 c = search needs
@@ -73,19 +73,19 @@ record Fits (n m : ℕ) (d e : List ℕ) : Type 0 where
 fits : (c : tie.After-enum-told3) → Fits (c .enum-told3 .given .0 .0) (length (c .before .before .before .before .before .before .before .before .before .before .before .args .fmt .now)) (c .before .before .before .before .before .before .before .before .before .before .before .args .out .now) (c .before .before .before .before .before .before .before .before .before .before .before .args .ends .now)
 fits c =
     let w = c .before .before .before .before .before .before .before .before .before .before .before .args in
-    let o = own-text (w .fmt .now) (c .before .before .before .before .before .before .before .before .before .before .before .pre) in
+    let o = text-alone (w .fmt .now) (c .before .before .before .before .before .before .before .before .before .before .before .pre) in
     let f = fitted (w .fmt .now) (w .row .now) _ _ _ _ (sym (answered (c .before .before)) ∙ c .enum-told3 .given .1) in
     record {
-      total = f .accepts .total ∙ ap length (own-printed (w .fmt .now) (w .row .now) o);
+      total = f .accepts .total ∙ ap length (alone-printed (w .fmt .now) (w .row .now) o);
       bytes = f .bytes;
-      slots = omega (arith, f .accepts .pieces, f .slots-enough, own-count (w .fmt .now) (w .row .now) o);
+      slots = omega (arith, f .accepts .pieces, f .slots-enough, alone-count (w .fmt .now) (w .row .now) o);
     }
 
 write-text-requires : tie.Need-write-text-requires
 write-text-requires c κs = omega (arith, fits (c .before) .total, fits (c .before) .bytes)
 
 cast-put-end : tie.Need-cast-put-end
-cast-put-end c = omega (arith, own-text (c .before .before .before .before .before .before .before .before .before .before .before .before .before .before .before .before .args .fmt .now) (c .before .before .before .before .before .before .before .before .before .before .before .before .before .before .before .before .pre) .short)
+cast-put-end c = omega (arith, text-alone (c .before .before .before .before .before .before .before .before .before .before .before .before .before .before .before .before .args .fmt .now) (c .before .before .before .before .before .before .before .before .before .before .before .before .before .before .before .before .pre) .short)
 
 put-end-requires : tie.Need-put-end-requires
 put-end-requires c κs = omega (arith, fits (c .before .before .before .before .before) .slots)
@@ -103,15 +103,15 @@ returns-2 : tie.Need-returns-2
 unfolding allBytes
 returns-2 c =
     let w = c .before .before .before .before .before .before .before .before .before .before .before .before .before .before .before .before .before .before .before .args in
-    let o = own-text (w .fmt .now) (c .before .before .before .before .before .before .before .before .before .before .before .before .before .before .before .before .before .before .before .pre) in
+    let o = text-alone (w .fmt .now) (c .before .before .before .before .before .before .before .before .before .before .before .before .before .before .before .before .before .before .before .pre) in
     let e = c .before .before .before .before .before .before .before .before .enum-told3 .given .1 in
     record {
       answer = answered (c .before .before .before .before .before .before .before .before .before .before);
       bytes =
-          c .before .before .before .before .before .before .write-text .ensures .1 ∙ ap (laid (w .out .now)) (sym (own-printed (w .fmt .now) (w .row .now) o))
+          c .before .before .before .before .before .before .write-text .ensures .1 ∙ ap (laid (w .out .now)) (sym (alone-printed (w .fmt .now) (w .row .now) o))
           ∙ sym (ap (λ (x : Outcome). written x (w .out .now) (printedText (w .fmt .now) (w .row .now))) e);
       slots =
-          c .before .before .put-end .ensures ∙ ap (λ (l : List ℕ). laid (w .ends .now) (allBytes l)) (sym (own-ends (w .fmt .now) (w .row .now) o))
+          c .before .before .put-end .ensures ∙ ap (λ (l : List ℕ). laid (w .ends .now) (allBytes l)) (sym (alone-ends (w .fmt .now) (w .row .now) o))
           ∙ sym (ap (λ (x : Outcome). written x (w .ends .now) (allBytes (endsFrom 0 (texts (w .fmt .now) (w .row .now))))) e);
     }
 
@@ -124,8 +124,8 @@ returns-3 c =
       slots = sym (ap (λ (x : Outcome). written x (w .ends .now) (allBytes (endsFrom 0 (texts (w .fmt .now) (w .row .now))))) (c .enum-told4 .given .1));
     }
 
-pub print-own-spec : {M : Type 1} → statement M
-print-own-spec =
+pub print-alone-spec : {M : Type 1} → statement M
+print-alone-spec =
     tie.close
     (tie.spec
     sub-read-row

@@ -19,7 +19,7 @@ use Rattle.parsing.specs.declared.Piece.the-variants.{Fixed}
 use Rattle.parsing.specs.declared.Step.the-variants.{Found}
 use Rattle.rows.specs.Row.{kindsOf, isRow}
 use Rattle.pieces.specs.Texts.{unpadded, stopOf, pieceText}
-use Rattle.texts.proofs.Own.{OwnText}
+use Rattle.texts.proofs.Alone.{TextAlone}
 use Rattle.printing.specs.Printing.{textsOf, texts, joined, printedText, endsFrom, firstStop, measuredEnd, measured}
 use Rattle.printing.specs.declared.Outcome.the-variants.{Accepted, Refused}
 use Rattle.printing.proofs.Reached.{Reached, reached-start, next-piece, reached-next, reached-end, past-end}
@@ -33,9 +33,9 @@ unfolding pieceAt
 first-piece [] ks h e = absurd (omega arith)
 first-piece (b ∷ bs) ks h e = simp (lt-ltb 0 (length (b ∷ bs)) h, first-byte b bs e, e, zero-add)
 
-module _ (s ks : List ℕ) (own : OwnText s) where
+module _ (s ks : List ℕ) (alone : TextAlone s) where
   found : pieceAt s ks start ≡ Found (Fixed 0 (length s)) (passed start (length s))
-  found = first-piece s ks (own .some) (own .text)
+  found = first-piece s ks (alone .some) (alone .text)
 
   behind : Reached s ks 512 (passed start (length s))
   behind = reached-next s ks 513 start (reached-start s ks start refl) (omega arith) (Fixed 0 (length s)) (passed start (length s)) found
@@ -43,40 +43,40 @@ module _ (s ks : List ℕ) (own : OwnText s) where
   at-end : (ended s ks ≡ Finished (passed start (length s))) × (take 1 (placed s ks) ≡ placed s ks)
   at-end = reached-end s ks 512 (passed start (length s)) behind (omega arith) (past-end s ks (passed start (length s)) (omega arith))
 
-  own-ended : ended s ks ≡ Finished (passed start (length s))
-  own-ended = at-end .0
+  alone-ended : ended s ks ≡ Finished (passed start (length s))
+  alone-ended = at-end .0
 
-  own-placed : placed s ks ≡ record { piece = Fixed 0 (length s); from = 0; to = length s } ∷ []
-  own-placed = sym (at-end .1) ∙ ap (take 1) (next-piece s ks 513 start (reached-start s ks start refl) (omega arith) (Fixed 0 (length s)) (passed start (length s)) found)
+  alone-placed : placed s ks ≡ record { piece = Fixed 0 (length s); from = 0; to = length s } ∷ []
+  alone-placed = sym (at-end .1) ∙ ap (take 1) (next-piece s ks 513 start (reached-start s ks start refl) (omega arith) (Fixed 0 (length s)) (passed start (length s)) found)
 
-module _ (s row : List ℕ) (own : OwnText s) where
-  own-text : pieceText s row (Fixed 0 (length s)) ≡ s
+module _ (s row : List ℕ) (alone : TextAlone s) where
+  text-alone : pieceText s row (Fixed 0 (length s)) ≡ s
   unfolding pieceText unpadded
-  own-text = take-length s
+  text-alone = take-length s
 
-  pub own-texts : texts s row ≡ s ∷ []
+  pub alone-texts : texts s row ≡ s ∷ []
   unfolding texts textsOf
-  own-texts = ap (textsOf s row) (own-placed s (kindsOf row) own) ∙ ap (λ (t : List ℕ). t ∷ []) own-text
+  alone-texts = ap (textsOf s row) (alone-placed s (kindsOf row) alone) ∙ ap (λ (t : List ℕ). t ∷ []) text-alone
 
-  pub own-printed : printedText s row ≡ s
+  pub alone-printed : printedText s row ≡ s
   unfolding printedText joined
-  own-printed = ap joined own-texts ∙ append-nil s
+  alone-printed = ap joined alone-texts ∙ append-nil s
 
-  pub own-ends : endsFrom 0 (texts s row) ≡ length s ∷ []
+  pub alone-ends : endsFrom 0 (texts s row) ≡ length s ∷ []
   unfolding endsFrom
-  own-ends = ap (endsFrom 0) own-texts ∙ ap (λ (n : ℕ). n ∷ []) (zero-add (length s))
+  alone-ends = ap (endsFrom 0) alone-texts ∙ ap (λ (n : ℕ). n ∷ []) (zero-add (length s))
 
-  pub own-count : length (placed s (kindsOf row)) ≡ 1
-  own-count = ap length (own-placed s (kindsOf row) own)
+  pub alone-count : length (placed s (kindsOf row)) ≡ 1
+  alone-count = ap length (alone-placed s (kindsOf row) alone)
 
   unstopped : firstStop s row (placed s (kindsOf row)) ≡ none
   unfolding firstStop stopOf
-  unstopped = ap (firstStop s row) (own-placed s (kindsOf row) own)
+  unstopped = ap (firstStop s row) (alone-placed s (kindsOf row) alone)
 
-  pub own-measured : isRow row ≡ true → measured s row ≡ Accepted (length s) 1
+  pub alone-measured : isRow row ≡ true → measured s row ≡ Accepted (length s) 1
   unfolding measured measuredEnd
-  own-measured kept = simp (le-ltb 4096 (length s) (own .short), own .formed, kept, own-ended s (kindsOf row) own, unstopped, own-printed)
+  alone-measured kept = simp (le-ltb 4096 (length s) (alone .short), alone .formed, kept, alone-ended s (kindsOf row) alone, unstopped, alone-printed)
 
-  pub own-broken : isRow row ≡ false → measured s row ≡ Refused 14 0
+  pub alone-broken : isRow row ≡ false → measured s row ≡ Refused 14 0
   unfolding measured
-  own-broken broken = simp (le-ltb 4096 (length s) (own .short), own .formed, broken)
+  alone-broken broken = simp (le-ltb 4096 (length s) (alone .short), alone .formed, broken)
