@@ -1,63 +1,43 @@
 -- What demand 3 says of the piece of one element, read back. 01, "Reading a piece back" and "What demand 3 compares".
-use Prim.Native.Nat.{ℕ, _%_}
+use Prim.Native.Nat.{ℕ}
+use Prim.Native.Char.{code}
 use mathlib.Core.Path.{_≡_}
 use mathlib.Core.Bool.{Bool, true, false}
 use mathlib.Core.List.{List}
 use lib.IntN.{ℤ}
+use Rattle.writing.specs.Choose.{choose}
 use Rattle.numerals.specs.Integers.{intOf, bitsOf}
 use Rattle.numerals.specs.declared.NumericParam.{NumericParam}
 use Rattle.binary64.specs.Fields.{categoryOf}
 use Rattle.binary64.specs.declared.FpCategory.{FpCategory}
-use Rattle.binary64.specs.declared.FpCategory.the-variants as F
+use Rattle.binary64.specs.declared.FpCategory.the-variants as C
 use Rattle.reading.specs.Reading.{Scaled, Reading, Integer, Bits, Float, readPiece}
 use Rattle.reading.specs.Nearness.{Denotes}
-use Rattle.conversions.specs.Kinds.{kindOf}
-use Rattle.conversions.specs.declared.ConversionType.{ConversionType}
-use Rattle.conversions.specs.declared.ConversionType.the-variants as T
-use Rattle.conversions.specs.declared.Kind.the-variants as K
-use Rattle.conversions.specs.declared.KindByte.{KindByte}
-use Rattle.conversions.specs.declared.KindByte.the-variants.{Known, Unknown}
+use Rattle.conversions.specs.Letters.{isUpper}
+use Rattle.conversions.specs.Kinds.{printsAs}
+use Rattle.conversions.specs.declared.Radix.{Radix}
+use Rattle.conversions.specs.declared.Radix.the-variants as R
+use Rattle.conversions.specs.declared.IntegerForm.{IntegerForm}
+use Rattle.conversions.specs.declared.IntegerForm.the-variants.{Numeral, Scalar, Digits}
+use Rattle.conversions.specs.declared.Form.{Form}
+use Rattle.conversions.specs.declared.Form.the-variants as F
 use Rattle.specifiers.specs.declared.Element.{Element}
 use Rattle.rows.specs.Row.{isNull}
-use Rattle.plans.specs.Plans.{styleOf}
-use Rattle.plans.specs.declared.Style.{Style}
-use Rattle.plans.specs.declared.Style.the-variants.{Decimal, Octals, Hexadecimal, Character, Plain, HexFloat, Truth, NotPrinted}
 
--- The letter of an element, as its byte.
-abbrev pub letterOf : ConversionType → ℕ
-letterOf T.BooleanLower = 98
-letterOf T.BooleanUpper = 66
-letterOf T.HexHashLower = 104
-letterOf T.HexHashUpper = 72
-letterOf T.StringLower = 115
-letterOf T.StringUpper = 83
-letterOf T.CharLower = 99
-letterOf T.CharUpper = 67
-letterOf T.DecInt = 100
-letterOf T.OctInt = 111
-letterOf T.HexIntLower = 120
-letterOf T.HexIntUpper = 88
-letterOf T.SciFloatLower = 101
-letterOf T.SciFloatUpper = 69
-letterOf T.DecFloatLower = 102
-letterOf T.CompactFloatLower = 103
-letterOf T.CompactFloatUpper = 71
-letterOf T.HexFloatLower = 97
-letterOf T.HexFloatUpper = 65
-letterOf (T.TimeLower t) = 116
-letterOf (T.TimeUpper t) = 84
+-- The element's letter, which "the rule is fed": d, o, x or X, and a or A.
+abbrev pub numeralLetter : Radix → Bool → ℕ
+numeralLetter R.Decimal upper = code "d"
+numeralLetter R.Octal upper = code "o"
+numeralLetter R.Hexadecimal upper = choose upper (λ _. code "X") (λ _. code "x")
+
+abbrev pub floatLetter : Bool → ℕ
+floatLetter upper = choose upper (λ _. code "A") (λ _. code "a")
 
 -- An integer z of w bits: %d gives "the integer", %x, %X and %o its two's complement bits, "the integer, plus 2 to the kind's width where negative".
--- The other letters are not read back.
-abbrev pub IntegerRead : Style → ℕ → ℤ → Reading → Type 0
-IntegerRead Decimal w z r = r ≡ Integer z
-IntegerRead Octals w z r = r ≡ Bits (bitsOf w z)
-IntegerRead Hexadecimal w z r = r ≡ Bits (bitsOf w z)
-IntegerRead Character w z r = Unit {0}
-IntegerRead Plain w z r = Unit {0}
-IntegerRead HexFloat w z r = Unit {0}
-IntegerRead Truth w z r = Unit {0}
-IntegerRead NotPrinted w z r = Unit {0}
+abbrev pub NumeralRead : Radix → ℕ → ℤ → Reading → Type 0
+NumeralRead R.Decimal w z r = r ≡ Integer z
+NumeralRead R.Octal w z r = r ≡ Bits (bitsOf w z)
+NumeralRead R.Hexadecimal w z r = r ≡ Bits (bitsOf w z)
 
 -- A number with a power of two was read, and it denotes the finite value with the bits b as demand 3 says for the precision p.
 pub record FloatRead (b : ℕ) (p : NumericParam) (r : Reading) : Type 0 where
@@ -67,21 +47,26 @@ pub record FloatRead (b : ℕ) (p : NumericParam) (r : Reading) : Type 0 where
 
 -- %a and %A of a float: a NaN and an infinity have no number to read.
 abbrev pub FiniteRead : FpCategory → ℕ → NumericParam → Reading → Type 0
-FiniteRead F.Nan b p r = Unit {0}
-FiniteRead F.Infinite b p r = Unit {0}
-FiniteRead F.Zero b p r = FloatRead b p r
-FiniteRead F.Subnormal b p r = FloatRead b p r
-FiniteRead F.Normal b p r = FloatRead b p r
+FiniteRead C.Nan b p r = Unit {0}
+FiniteRead C.Infinite b p r = Unit {0}
+FiniteRead C.Zero b p r = FloatRead b p r
+FiniteRead C.Subnormal b p r = FloatRead b p r
+FiniteRead C.Normal b p r = FloatRead b p r
 
--- The value v of a kind, null or not, under an element whose piece is read as r. Only %a and %A are printed for a float; null is no number.
-abbrev pub ValueRead : Element → KindByte → Bool → ℕ → Reading → Type 0
-ValueRead e (Known (K.Signed w)) false v r = IntegerRead (styleOf (e .conversion)) w (intOf 64 v) r
-ValueRead e (Known (K.Signed w)) true v r = Unit {0}
-ValueRead e (Known K.Float64) null v r = FiniteRead (categoryOf v) v (e .precision) r
-ValueRead e (Known K.Boolean) null v r = Unit {0}
-ValueRead e (Known K.Text) null v r = Unit {0}
-ValueRead e Unknown null v r = Unit {0}
+-- The bytes t of an integer that is not null, and of any value in its form; what is neither a numeral nor a float is not read back.
+abbrev pub IntegerRead : Element → IntegerForm → ℕ → ℕ → List ℕ → Type 0
+IntegerRead e (Numeral r) w v t = NumeralRead r w (intOf 64 v) (readPiece (numeralLetter r (isUpper (e .conversion))) t)
+IntegerRead e Scalar w v t = Unit {0}
+IntegerRead e Digits w v t = Unit {0}
+
+abbrev pub ValueRead : Element → Form → Bool → ℕ → List ℕ → Type 0
+ValueRead e (F.Integer f w) false v t = IntegerRead e f w v t
+ValueRead e (F.Integer f w) true v t = Unit {0}
+ValueRead e F.HexFloat null v t = FiniteRead (categoryOf v) v (e .precision) (readPiece (floatLetter (isUpper (e .conversion))) t)
+ValueRead e F.Boolean null v t = Unit {0}
+ValueRead e F.Text null v t = Unit {0}
+ValueRead e F.NotPrinted null v t = Unit {0}
 
 -- "The rule is fed the piece's bytes and the element's letter, nothing else": that the bytes t, read so, denote the value v with the kind byte k.
 unfoldable pub ReadsBack : Element → ℕ → ℕ → List ℕ → Type 0
-ReadsBack e k v t = ValueRead e (kindOf (k % 128)) (isNull k) v (readPiece (letterOf (e .conversion)) t)
+ReadsBack e k v t = ValueRead e (printsAs (e .conversion) k) (isNull k) v t

@@ -1,8 +1,7 @@
--- The kinds of value, and which letters fit them.
+-- The kinds of value, which letters fit them, and which letters print them: two tables over the families of letters and the kinds.
 use Prim.Native.Nat.{ℕ, _%_}
-use mathlib.Core.Bool.{Bool, true, false}
-use lib.Dec.{eqb}
-use Rattle.conversions.specs.Letters.{named, familyOf}
+use mathlib.Core.Bool.{Bool, true, false, _||_}
+use Rattle.conversions.specs.Letters.{numbered, familyOf}
 use Rattle.conversions.specs.declared.ConversionType.{ConversionType}
 use Rattle.conversions.specs.declared.Family.{Family}
 use Rattle.conversions.specs.declared.Family.the-variants as F
@@ -10,17 +9,22 @@ use Rattle.conversions.specs.declared.Kind.{Kind}
 use Rattle.conversions.specs.declared.Kind.the-variants as K
 use Rattle.conversions.specs.declared.KindByte.{KindByte}
 use Rattle.conversions.specs.declared.KindByte.the-variants.{Known, Unknown}
+use Rattle.conversions.specs.declared.Radix.the-variants.{Decimal, Octal, Hexadecimal}
+use Rattle.conversions.specs.declared.IntegerForm.{IntegerForm}
+use Rattle.conversions.specs.declared.IntegerForm.the-variants.{Numeral, Scalar, Digits}
+use Rattle.conversions.specs.declared.Form.{Form}
+use Rattle.conversions.specs.declared.Form.the-variants.{Integer, HexFloat, Boolean, Text, NotPrinted}
 
 -- 01: "Kinds: 1 to 4 signed integers of 8, 16, 32 and 64 bits ..; 5 Float64 ..; 6 Boolean ..; 7 text"
 unfoldable pub kindOf : ℕ → KindByte
 kindOf b =
-    named 1 (Known (K.Signed 8)) b
-    (λ _. named 2 (Known (K.Signed 16)) b
-    (λ _. named 3 (Known (K.Signed 32)) b
-    (λ _. named 4 (Known (K.Signed 64)) b
-    (λ _. named 5 (Known K.Float64) b
-    (λ _. named 6 (Known K.Boolean) b
-    (λ _. named 7 (Known K.Text) b
+    numbered 1 (Known (K.Signed 8)) b
+    (λ _. numbered 2 (Known (K.Signed 16)) b
+    (λ _. numbered 3 (Known (K.Signed 32)) b
+    (λ _. numbered 4 (Known (K.Signed 64)) b
+    (λ _. numbered 5 (Known K.Float64) b
+    (λ _. numbered 6 (Known K.Boolean) b
+    (λ _. numbered 7 (Known K.Text) b
     (λ _. Unknown)))))))
 
 abbrev pub isInteger : Kind → Bool
@@ -29,11 +33,11 @@ isInteger K.Float64 = false
 isInteger K.Boolean = false
 isInteger K.Text = false
 
-abbrev pub isNumber : Kind → Bool
-isNumber (K.Signed w) = true
-isNumber K.Float64 = true
-isNumber K.Boolean = false
-isNumber K.Text = false
+abbrev pub isFloat : Kind → Bool
+isFloat (K.Signed w) = false
+isFloat K.Float64 = true
+isFloat K.Boolean = false
+isFloat K.Text = false
 
 abbrev pub isBoolean : Kind → Bool
 isBoolean (K.Signed w) = false
@@ -41,20 +45,63 @@ isBoolean K.Float64 = false
 isBoolean K.Boolean = true
 isBoolean K.Text = false
 
--- 01: "b needs 6; c, d, o, x need 1 to 4; e, f, g, a need 1 to 5; t and T fit none of our kinds; s and h take all."
+abbrev pub isNumber : Kind → Bool
+isNumber k = isInteger k || isFloat k
+
+-- What fits. 01: "b needs 6; c, d, o, x need 1 to 4; e, f, g, a need 1 to 5; t and T fit none of our kinds; s and h take all."
 abbrev pub fits : Family → Kind → Bool
 fits F.Boolean k = isBoolean k
 fits F.Char k = isInteger k
-fits F.Integer k = isInteger k
-fits F.Float k = isNumber k
+fits F.Decimal k = isInteger k
+fits F.Octal k = isInteger k
+fits F.Hexadecimal k = isInteger k
+fits F.HexFloat k = isNumber k
+fits F.DecimalFloat k = isNumber k
 fits F.Time k = false
 fits F.Text k = true
 fits F.Hash k = true
 
--- 128 added to a kind marks null, which no letter's fit looks at.
+-- What prints. 01: integers by %d, %x, %o, %c and %s; %a is "the only" letter "printed for kind 5"; "%b of Boolean and %s of text are the only
+-- letters printed for kinds 6 and 7".
+abbrev pub integerForm : IntegerForm → Kind → Form
+integerForm f (K.Signed w) = Integer f w
+integerForm f K.Float64 = NotPrinted
+integerForm f K.Boolean = NotPrinted
+integerForm f K.Text = NotPrinted
+
+abbrev pub stringForm : Kind → Form
+stringForm (K.Signed w) = Integer Digits w
+stringForm K.Float64 = NotPrinted
+stringForm K.Boolean = NotPrinted
+stringForm K.Text = Text
+
+abbrev pub onlyIf : Bool → Form → Form
+onlyIf true f = f
+onlyIf false f = NotPrinted
+
+abbrev pub formOf : Family → Kind → Form
+formOf F.Decimal k = integerForm (Numeral Decimal) k
+formOf F.Octal k = integerForm (Numeral Octal) k
+formOf F.Hexadecimal k = integerForm (Numeral Hexadecimal) k
+formOf F.Char k = integerForm Scalar k
+formOf F.Text k = stringForm k
+formOf F.HexFloat k = onlyIf (isFloat k) HexFloat
+formOf F.Boolean k = onlyIf (isBoolean k) Boolean
+formOf F.Hash k = NotPrinted
+formOf F.DecimalFloat k = NotPrinted
+formOf F.Time k = NotPrinted
+
+-- Of a kind byte: 128 added to a kind marks null, which neither table looks at.
 abbrev pub fitsByte : Family → KindByte → Bool
 fitsByte f (Known k) = fits f k
 fitsByte f Unknown = false
 
 unfoldable pub fitsKind : ConversionType → ℕ → Bool
 fitsKind c k = fitsByte (familyOf c) (kindOf (k % 128))
+
+abbrev pub formByte : Family → KindByte → Form
+formByte f (Known k) = formOf f k
+formByte f Unknown = NotPrinted
+
+unfoldable pub printsAs : ConversionType → ℕ → Form
+printsAs c k = formByte (familyOf c) (kindOf (k % 128))

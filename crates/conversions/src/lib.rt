@@ -4,7 +4,7 @@
 ghost use mathlib.Core.Path.{_≡_};
 ghost use Prim.Native.Nat.{_<_, _≤_};
 ghost use Rattle.conversions.specs.Letters.{timeOf, conversionOf, isUpper, familyOf};
-ghost use Rattle.conversions.specs.Kinds.{kindOf, isInteger, isNumber, isBoolean, fits, fitsKind};
+ghost use Rattle.conversions.specs.Kinds.{kindOf, isInteger, isFloat, isNumber, isBoolean, fits, fitsKind, integerForm, stringForm, onlyIf, formOf, printsAs};
 
 // The component of a date that a letter behind t or T names.
 pub enum TimeFormat {
@@ -65,14 +65,17 @@ pub enum ConversionType {
     TimeUpper(TimeFormat),
 }
 
-// The letters that fit the same kinds.
+// The letters that fit the same kinds and print alike.
 pub enum Family {
     Boolean,
     Hash,
     Text,
     Char,
-    Integer,
-    Float,
+    Decimal,
+    Octal,
+    Hexadecimal,
+    HexFloat,
+    DecimalFloat,
     Time,
 }
 
@@ -82,6 +85,29 @@ pub enum Kind {
     Float64,
     Boolean,
     Text,
+}
+
+// The base in which an integer is written, and how: %d, %o, %x.
+pub enum Radix {
+    Decimal,
+    Octal,
+    Hexadecimal,
+}
+
+// How an integer is printed: as a numeral, as the character that it numbers, or by its decimal digits as text.
+pub enum IntegerForm {
+    Numeral(Radix),
+    Scalar,
+    Digits,
+}
+
+// How a value is printed.
+pub enum Form {
+    Integer { form: IntegerForm, width: u32 },
+    HexFloat,
+    Boolean,
+    Text,
+    NotPrinted,
 }
 
 pub enum TimeLetter {
@@ -104,37 +130,37 @@ pub fn time_of(b: u8) -> TimeLetter
     ensures { λ r. ⌜ r ≡ timeOf b ⌝ }
 {
     match b {
-        72 => TimeLetter::Component(TimeFormat::HUpper),
-        73 => TimeLetter::Component(TimeFormat::IUpper),
-        107 => TimeLetter::Component(TimeFormat::KLower),
-        108 => TimeLetter::Component(TimeFormat::LLower),
-        77 => TimeLetter::Component(TimeFormat::MUpper),
-        83 => TimeLetter::Component(TimeFormat::SUpper),
-        76 => TimeLetter::Component(TimeFormat::LUpper),
-        78 => TimeLetter::Component(TimeFormat::NUpper),
-        112 => TimeLetter::Component(TimeFormat::PLower),
-        122 => TimeLetter::Component(TimeFormat::ZLower),
-        90 => TimeLetter::Component(TimeFormat::ZUpper),
-        115 => TimeLetter::Component(TimeFormat::SLower),
-        81 => TimeLetter::Component(TimeFormat::QUpper),
-        66 => TimeLetter::Component(TimeFormat::BUpper),
-        98 => TimeLetter::Component(TimeFormat::BLower),
-        104 => TimeLetter::Component(TimeFormat::BLower),
-        65 => TimeLetter::Component(TimeFormat::AUpper),
-        97 => TimeLetter::Component(TimeFormat::ALower),
-        67 => TimeLetter::Component(TimeFormat::CUpper),
-        89 => TimeLetter::Component(TimeFormat::YUpper),
-        121 => TimeLetter::Component(TimeFormat::YLower),
-        106 => TimeLetter::Component(TimeFormat::JLower),
-        109 => TimeLetter::Component(TimeFormat::MLower),
-        100 => TimeLetter::Component(TimeFormat::DLower),
-        101 => TimeLetter::Component(TimeFormat::ELower),
-        82 => TimeLetter::Component(TimeFormat::RUpper),
-        84 => TimeLetter::Component(TimeFormat::TUpper),
-        114 => TimeLetter::Component(TimeFormat::RLower),
-        68 => TimeLetter::Component(TimeFormat::DUpper),
-        70 => TimeLetter::Component(TimeFormat::FUpper),
-        99 => TimeLetter::Component(TimeFormat::CLower),
+        b'H' => TimeLetter::Component(TimeFormat::HUpper),
+        b'I' => TimeLetter::Component(TimeFormat::IUpper),
+        b'k' => TimeLetter::Component(TimeFormat::KLower),
+        b'l' => TimeLetter::Component(TimeFormat::LLower),
+        b'M' => TimeLetter::Component(TimeFormat::MUpper),
+        b'S' => TimeLetter::Component(TimeFormat::SUpper),
+        b'L' => TimeLetter::Component(TimeFormat::LUpper),
+        b'N' => TimeLetter::Component(TimeFormat::NUpper),
+        b'p' => TimeLetter::Component(TimeFormat::PLower),
+        b'z' => TimeLetter::Component(TimeFormat::ZLower),
+        b'Z' => TimeLetter::Component(TimeFormat::ZUpper),
+        b's' => TimeLetter::Component(TimeFormat::SLower),
+        b'Q' => TimeLetter::Component(TimeFormat::QUpper),
+        b'B' => TimeLetter::Component(TimeFormat::BUpper),
+        b'b' => TimeLetter::Component(TimeFormat::BLower),
+        b'h' => TimeLetter::Component(TimeFormat::BLower),
+        b'A' => TimeLetter::Component(TimeFormat::AUpper),
+        b'a' => TimeLetter::Component(TimeFormat::ALower),
+        b'C' => TimeLetter::Component(TimeFormat::CUpper),
+        b'Y' => TimeLetter::Component(TimeFormat::YUpper),
+        b'y' => TimeLetter::Component(TimeFormat::YLower),
+        b'j' => TimeLetter::Component(TimeFormat::JLower),
+        b'm' => TimeLetter::Component(TimeFormat::MLower),
+        b'd' => TimeLetter::Component(TimeFormat::DLower),
+        b'e' => TimeLetter::Component(TimeFormat::ELower),
+        b'R' => TimeLetter::Component(TimeFormat::RUpper),
+        b'T' => TimeLetter::Component(TimeFormat::TUpper),
+        b'r' => TimeLetter::Component(TimeFormat::RLower),
+        b'D' => TimeLetter::Component(TimeFormat::DUpper),
+        b'F' => TimeLetter::Component(TimeFormat::FUpper),
+        b'c' => TimeLetter::Component(TimeFormat::CLower),
         _ => TimeLetter::NoComponent,
     }
 }
@@ -144,25 +170,25 @@ pub fn conversion_of(b: u8) -> Letter
     ensures { λ r. ⌜ r ≡ conversionOf b ⌝ }
 {
     match b {
-        98 => Letter::Conversion(ConversionType::BooleanLower),
-        66 => Letter::Conversion(ConversionType::BooleanUpper),
-        104 => Letter::Conversion(ConversionType::HexHashLower),
-        72 => Letter::Conversion(ConversionType::HexHashUpper),
-        115 => Letter::Conversion(ConversionType::StringLower),
-        83 => Letter::Conversion(ConversionType::StringUpper),
-        99 => Letter::Conversion(ConversionType::CharLower),
-        67 => Letter::Conversion(ConversionType::CharUpper),
-        100 => Letter::Conversion(ConversionType::DecInt),
-        111 => Letter::Conversion(ConversionType::OctInt),
-        120 => Letter::Conversion(ConversionType::HexIntLower),
-        88 => Letter::Conversion(ConversionType::HexIntUpper),
-        101 => Letter::Conversion(ConversionType::SciFloatLower),
-        69 => Letter::Conversion(ConversionType::SciFloatUpper),
-        102 => Letter::Conversion(ConversionType::DecFloatLower),
-        103 => Letter::Conversion(ConversionType::CompactFloatLower),
-        71 => Letter::Conversion(ConversionType::CompactFloatUpper),
-        97 => Letter::Conversion(ConversionType::HexFloatLower),
-        65 => Letter::Conversion(ConversionType::HexFloatUpper),
+        b'b' => Letter::Conversion(ConversionType::BooleanLower),
+        b'B' => Letter::Conversion(ConversionType::BooleanUpper),
+        b'h' => Letter::Conversion(ConversionType::HexHashLower),
+        b'H' => Letter::Conversion(ConversionType::HexHashUpper),
+        b's' => Letter::Conversion(ConversionType::StringLower),
+        b'S' => Letter::Conversion(ConversionType::StringUpper),
+        b'c' => Letter::Conversion(ConversionType::CharLower),
+        b'C' => Letter::Conversion(ConversionType::CharUpper),
+        b'd' => Letter::Conversion(ConversionType::DecInt),
+        b'o' => Letter::Conversion(ConversionType::OctInt),
+        b'x' => Letter::Conversion(ConversionType::HexIntLower),
+        b'X' => Letter::Conversion(ConversionType::HexIntUpper),
+        b'e' => Letter::Conversion(ConversionType::SciFloatLower),
+        b'E' => Letter::Conversion(ConversionType::SciFloatUpper),
+        b'f' => Letter::Conversion(ConversionType::DecFloatLower),
+        b'g' => Letter::Conversion(ConversionType::CompactFloatLower),
+        b'G' => Letter::Conversion(ConversionType::CompactFloatUpper),
+        b'a' => Letter::Conversion(ConversionType::HexFloatLower),
+        b'A' => Letter::Conversion(ConversionType::HexFloatUpper),
         _ => Letter::NoConversion,
     }
 }
@@ -197,7 +223,7 @@ pub fn is_upper(conversion: ConversionType) -> bool
 }
 
 // The family of a conversion.
-pub fn family_of(conversion: ConversionType) -> Family
+fn family_of(conversion: ConversionType) -> Family
     ensures { λ r. ⌜ r ≡ familyOf conversion ⌝ }
 {
     match conversion {
@@ -209,17 +235,17 @@ pub fn family_of(conversion: ConversionType) -> Family
         ConversionType::StringUpper => Family::Text,
         ConversionType::CharLower => Family::Char,
         ConversionType::CharUpper => Family::Char,
-        ConversionType::DecInt => Family::Integer,
-        ConversionType::OctInt => Family::Integer,
-        ConversionType::HexIntLower => Family::Integer,
-        ConversionType::HexIntUpper => Family::Integer,
-        ConversionType::SciFloatLower => Family::Float,
-        ConversionType::SciFloatUpper => Family::Float,
-        ConversionType::DecFloatLower => Family::Float,
-        ConversionType::CompactFloatLower => Family::Float,
-        ConversionType::CompactFloatUpper => Family::Float,
-        ConversionType::HexFloatLower => Family::Float,
-        ConversionType::HexFloatUpper => Family::Float,
+        ConversionType::DecInt => Family::Decimal,
+        ConversionType::OctInt => Family::Octal,
+        ConversionType::HexIntLower => Family::Hexadecimal,
+        ConversionType::HexIntUpper => Family::Hexadecimal,
+        ConversionType::SciFloatLower => Family::DecimalFloat,
+        ConversionType::SciFloatUpper => Family::DecimalFloat,
+        ConversionType::DecFloatLower => Family::DecimalFloat,
+        ConversionType::CompactFloatLower => Family::DecimalFloat,
+        ConversionType::CompactFloatUpper => Family::DecimalFloat,
+        ConversionType::HexFloatLower => Family::HexFloat,
+        ConversionType::HexFloatUpper => Family::HexFloat,
         ConversionType::TimeLower(_) => Family::Time,
         ConversionType::TimeUpper(_) => Family::Time,
     }
@@ -252,11 +278,11 @@ fn is_integer(kind: Kind) -> bool
     }
 }
 
-fn is_number(kind: Kind) -> bool
-    ensures { λ r. ⌜ r ≡ isNumber kind ⌝ }
+fn is_float(kind: Kind) -> bool
+    ensures { λ r. ⌜ r ≡ isFloat kind ⌝ }
 {
     match kind {
-        Kind::Signed(_) => true,
+        Kind::Signed(_) => false,
         Kind::Float64 => true,
         Kind::Boolean => false,
         Kind::Text => false,
@@ -274,6 +300,15 @@ fn is_boolean(kind: Kind) -> bool
     }
 }
 
+fn is_number(kind: Kind) -> bool
+    ensures { λ r. ⌜ r ≡ isNumber kind ⌝ }
+{
+    if is_integer(kind) {
+        return true;
+    }
+    is_float(kind)
+}
+
 // Whether the letters of a family fit a kind.
 fn family_fits(family: Family, kind: Kind) -> bool
     ensures { λ r. ⌜ r ≡ fits family kind ⌝ }
@@ -283,8 +318,11 @@ fn family_fits(family: Family, kind: Kind) -> bool
         Family::Hash => true,
         Family::Text => true,
         Family::Char => is_integer(kind),
-        Family::Integer => is_integer(kind),
-        Family::Float => is_number(kind),
+        Family::Decimal => is_integer(kind),
+        Family::Octal => is_integer(kind),
+        Family::Hexadecimal => is_integer(kind),
+        Family::HexFloat => is_number(kind),
+        Family::DecimalFloat => is_number(kind),
         Family::Time => false,
     }
 }
@@ -297,4 +335,71 @@ pub fn validate(conversion: ConversionType, kind: u8) -> bool
         return false;
     };
     family_fits(family_of(conversion), k)
+}
+
+// An integer in this form; no other kind has it.
+fn integer_form(form: IntegerForm, kind: Kind) -> Form
+    ensures { λ r. ⌜ r ≡ integerForm form kind ⌝ }
+{
+    match kind {
+        Kind::Signed(width) => Form::Integer {
+            form: form,
+            width: width,
+        },
+        Kind::Float64 => Form::NotPrinted,
+        Kind::Boolean => Form::NotPrinted,
+        Kind::Text => Form::NotPrinted,
+    }
+}
+
+// %s: an integer's digits, or a text.
+fn string_form(kind: Kind) -> Form
+    ensures { λ r. ⌜ r ≡ stringForm kind ⌝ }
+{
+    match kind {
+        Kind::Signed(width) => Form::Integer {
+            form: IntegerForm::Digits,
+            width: width,
+        },
+        Kind::Float64 => Form::NotPrinted,
+        Kind::Boolean => Form::NotPrinted,
+        Kind::Text => Form::Text,
+    }
+}
+
+fn only_if(test: bool, form: Form) -> Form
+    ensures { λ r. ⌜ r ≡ onlyIf test form ⌝ }
+{
+    if test {
+        return form;
+    }
+    Form::NotPrinted
+}
+
+// How the letters of a family print a kind.
+fn family_form(family: Family, kind: Kind) -> Form
+    ensures { λ r. ⌜ r ≡ formOf family kind ⌝ }
+{
+    match family {
+        Family::Boolean => only_if(is_boolean(kind), Form::Boolean),
+        Family::Hash => Form::NotPrinted,
+        Family::Text => string_form(kind),
+        Family::Char => integer_form(IntegerForm::Scalar, kind),
+        Family::Decimal => integer_form(IntegerForm::Numeral(Radix::Decimal), kind),
+        Family::Octal => integer_form(IntegerForm::Numeral(Radix::Octal), kind),
+        Family::Hexadecimal => integer_form(IntegerForm::Numeral(Radix::Hexadecimal), kind),
+        Family::HexFloat => only_if(is_float(kind), Form::HexFloat),
+        Family::DecimalFloat => Form::NotPrinted,
+        Family::Time => Form::NotPrinted,
+    }
+}
+
+// How a conversion prints the kind of this byte, a null mark aside.
+pub fn form_of(conversion: ConversionType, kind: u8) -> Form
+    ensures { λ r. ⌜ r ≡ printsAs conversion kind ⌝ }
+{
+    let KindByte::Known(k) = kind_of(kind % 128) else {
+        return Form::NotPrinted;
+    };
+    family_form(family_of(conversion), k)
 }

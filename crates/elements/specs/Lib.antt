@@ -1,1 +1,2 @@
-pub mod ElementPlans
+pub mod Texts
+pub mod Sizes

@@ -1,23 +1,106 @@
-// How a row's value is laid out under an element.
-// Ported from format_string.rs of datafusion-spark 55.2.0 (Apache-2.0; see NOTICE): format_hex_float, format_boolean, format_string and format_str.
+// The text of a row's value under an element: its length, and its writer, which writes where there is room.
+// Ported from format_string.rs of datafusion-spark 55.2.0 (Apache-2.0; see NOTICE): format_integer, format_signed, format_unsigned, format_char,
+// format_boolean, format_string and format_hex_float.
 use binary64::FpCategory;
-use bodies::Body;
-use conversions::Kind;
-use conversions::KindByte;
+use conversions::Form;
+use conversions::IntegerForm;
+use conversions::Radix;
+use layout::Adjust;
 use layout::Mark;
 use layout::Prefix;
 use numerals::NumericParam;
-use plans::Planned;
-use plans::Style;
 use specifiers::Element;
 use specifiers::Flags;
-use words::Word;
 ghost use mathlib.Core.Path.{_≡_};
-ghost use Prim.Native.Nat.{_^_, _<_};
+ghost use mathlib.Core.Bool.{false};
+ghost use mathlib.Core.List.{[]};
+ghost use Prim.Native.Nat.{_^_, _≤_, _<_};
+ghost use lib.IntN.{natAbs};
 ghost use lib.ListN.{length};
-ghost use Rattle.conversions.specs.Kinds.{kindOf};
+ghost use Rattle.writing.specs.Laid.{Wrote, Put};
+ghost use Rattle.numerals.specs.Digits.{IsBase};
+ghost use Rattle.numerals.specs.Integers.{intOf, isNegative};
 ghost use Rattle.binary64.specs.Fields.{categoryOf};
-ghost use Rattle.elements.specs.ElementPlans.{floatMark, finitePlan, namedFloat, hexFloatPlan, floatPlan, booleanPlan, cutPart, strPlan, textPlan, valuePlan, elementPlan};
+ghost use Rattle.conversions.specs.declared.Form.the-variants as F;
+ghost use Rattle.elements.specs.Texts.{widthOf, side, fill, paddedText, paddedNumber, formatString, signMark, integerMark, ifAlternate, hexPrefix, signedText, charText, floatMark, finiteText, floatText, integerText, valueText, elementText, textOf};
+ghost use Rattle.elements.specs.Sizes.{Sized, digitsText, signedNumeral, unsignedNumeral, numeralOf};
+
+// The refusals of this crate, by their numbers in 01's table, "What stops a call".
+pub const NOT_PRINTED: u8 = 15;
+
+pub const NO_SCALAR: u8 = 16;
+
+// The length of a text, or the number that stops it.
+pub enum Size {
+    Bytes(u64),
+    Stops(u8),
+}
+
+// An integer as digits in a base, with its mark and prefix; with commas where grouped is set.
+pub struct Numeral {
+    pub mark: Mark,
+    pub prefix: Prefix,
+    pub value: u64,
+    pub base: u64,
+    pub upper: bool,
+    pub grouped: bool,
+}
+
+fn width_of(width: NumericParam) -> u32
+    ensures { λ r. ⌜ r ≡ widthOf width ⌝ }
+{
+    match width {
+        NumericParam::Literal(w) => w,
+        NumericParam::FromArgument => 0,
+    }
+}
+
+// Where spaces stand: behind with `-`, else in front.
+fn side_of(flags: Flags) -> Adjust
+    ensures { λ r. ⌜ r ≡ side flags ⌝ }
+{
+    if flags.left {
+        return Adjust::Left;
+    }
+    Adjust::Right
+}
+
+// Where a number's padding stands: zeros with `0`.
+fn fill_of(flags: Flags) -> Adjust
+    ensures { λ r. ⌜ r ≡ fill flags ⌝ }
+{
+    if flags.left {
+        return Adjust::Left;
+    }
+    if flags.zero {
+        return Adjust::Zeros;
+    }
+    Adjust::Right
+}
+
+fn sign_mark(flags: Flags) -> Mark
+    ensures { λ r. ⌜ r ≡ signMark flags ⌝ }
+{
+    if flags.plus {
+        return Mark::Plus;
+    }
+    if flags.space {
+        return Mark::Space;
+    }
+    Mark::NoMark
+}
+
+fn integer_mark(flags: Flags, negative: bool) -> Mark
+    ensures { λ r. ⌜ r ≡ integerMark flags negative ⌝ }
+{
+    if negative {
+        if flags.parentheses {
+            return Mark::Brackets;
+        }
+        return Mark::Minus;
+    }
+    sign_mark(flags)
+}
 
 fn float_mark(flags: Flags, negative: bool) -> Mark
     ensures { λ r. ⌜ r ≡ floatMark flags negative ⌝ }
@@ -25,13 +108,210 @@ fn float_mark(flags: Flags, negative: bool) -> Mark
     if negative {
         return Mark::Minus;
     }
-    plans::sign_mark(flags)
+    sign_mark(flags)
+}
+
+// What `#` puts in front.
+fn if_alternate(flags: Flags, prefix: Prefix) -> Prefix
+    ensures { λ r. ⌜ r ≡ ifAlternate flags prefix ⌝ }
+{
+    if flags.alternate {
+        return prefix;
+    }
+    Prefix::NoPrefix
+}
+
+// The prefix of hexadecimal digits.
+fn hex_prefix(upper: bool) -> Prefix
+    ensures { λ r. ⌜ r ≡ hexPrefix upper ⌝ }
+{
+    if upper {
+        return Prefix::HexUpper;
+    }
+    Prefix::HexLower
+}
+
+// A text in capitals or not, padded to the element's width.
+fn put_padded(out: &mut [u8], e: Element, mark: Mark, text: &[u8]) -> u64
+    requires { ⌜ length (now text) < 2 ^ 32 ⌝ }
+    ensures { λ r. ⌜ Put (now (out .entry)) (paddedText e mark (now (text .entry))) r (now (out .exit)) × (r < 2 ^ 42) ⌝ }
+{
+    let width = e.width;
+    let flags = e.flags;
+    let conversion = e.conversion;
+    let n = text.len() as u64;
+    let frame = layout::frame_for(width_of(width), side_of(flags), mark, Prefix::NoPrefix, n);
+    let total = layout::frame_len(frame) + n;
+    if total <= out.len() as u64 {
+        let a = layout::write_head(out, frame);
+        let upper = conversions::is_upper(conversion);
+        let b = a + strings::write_cased(&mut out[a..], text, upper);
+        layout::write_tail(&mut out[b..], frame);
+    }
+    total
+}
+
+// A text, cut to the precision, in capitals or not, padded to the width.
+fn format_string(out: &mut [u8], e: Element, text: &[u8]) -> u64
+    requires { ⌜ length (now text) < 2 ^ 32 ⌝ }
+    ensures { λ r. ⌜ Put (now (out .entry)) (formatString e (now (text .entry))) r (now (out .exit)) × (r < 2 ^ 42) ⌝ }
+{
+    let precision = e.precision;
+    put_padded(out, e, Mark::NoMark, strings::cut(precision, text))
+}
+
+// How many bytes a numeral's digits and commas take.
+fn numeral_len(n: Numeral) -> usize
+    requires { ⌜ IsBase (n .base) ⌝ }
+    ensures { λ r. ⌜ (r ≡ length (digitsText n)) × (r < 2 ^ 32) ⌝ }
+{
+    if n.grouped {
+        return numerals::grouped_len(n.value);
+    }
+    numerals::digits_len(n.value, n.base)
+}
+
+// Writes them. Answers len, which is how many they are.
+fn write_numeral(out: &mut [u8], n: Numeral, len: usize) -> usize
+    requires { ⌜ (IsBase (n .base)) × (len ≡ length (digitsText n)) × (len ≤ length (now out)) ⌝ }
+    ensures { λ r. ⌜ Wrote (now (out .entry)) (digitsText n) r (now (out .exit)) ⌝ }
+{
+    if n.grouped {
+        return numerals::write_grouped(out, n.value, len);
+    }
+    numerals::write_digits(out, n.value, n.base, len, n.upper)
+}
+
+// A numeral, padded to the element's width.
+fn put_numeral(out: &mut [u8], e: Element, n: Numeral) -> u64
+    requires { ⌜ IsBase (n .base) ⌝ }
+    ensures { λ r. ⌜ Put (now (out .entry)) (paddedNumber e (n .mark) (n .prefix) (digitsText n)) r (now (out .exit)) × (r < 2 ^ 42) ⌝ }
+{
+    let width = e.width;
+    let flags = e.flags;
+    let mark = n.mark;
+    let prefix = n.prefix;
+    let len = numeral_len(n);
+    let frame = layout::frame_for(width_of(width), fill_of(flags), mark, prefix, len as u64);
+    let total = layout::frame_len(frame) + len as u64;
+    if total <= out.len() as u64 {
+        let a = layout::write_head(out, frame);
+        let b = a + write_numeral(&mut out[a..], n, len);
+        layout::write_tail(&mut out[b..], frame);
+    }
+    total
+}
+
+// %d
+fn format_signed(flags: Flags, value: u64) -> Numeral
+    ensures { λ r. ⌜ r ≡ signedNumeral flags value ⌝ }
+{
+    Numeral {
+        mark: integer_mark(flags, numerals::is_negative(value)),
+        prefix: Prefix::NoPrefix,
+        value: numerals::magnitude(value),
+        base: 10,
+        upper: false,
+        grouped: flags.grouping,
+    }
+}
+
+// %x and %o of the bits of an integer.
+fn format_unsigned(prefix: Prefix, base: u64, upper: bool, bits: u64) -> Numeral
+    ensures { λ r. ⌜ r ≡ unsignedNumeral prefix base upper bits ⌝ }
+{
+    Numeral {
+        mark: Mark::NoMark,
+        prefix: prefix,
+        value: bits,
+        base: base,
+        upper: upper,
+        grouped: false,
+    }
+}
+
+// The numeral of an integer of this width.
+fn numeral_of(e: Element, radix: Radix, width: u32, value: u64) -> Numeral
+    ensures { λ r. ⌜ r ≡ numeralOf e radix width value ⌝ }
+{
+    let flags = e.flags;
+    let conversion = e.conversion;
+    match radix {
+        Radix::Decimal => format_signed(flags, value),
+        Radix::Octal => {
+            let bits = numerals::low_bits(value, width);
+            format_unsigned(if_alternate(flags, Prefix::Octal), 8, false, bits)
+        }
+        Radix::Hexadecimal => {
+            let upper = conversions::is_upper(conversion);
+            let bits = numerals::low_bits(value, width);
+            format_unsigned(if_alternate(flags, hex_prefix(upper)), 16, upper, bits)
+        }
+    }
+}
+
+// %c
+fn format_char(out: &mut [u8], e: Element, value: u64) -> Size
+    ensures { λ r. ⌜ Sized (now (out .entry)) (charText e (isNegative (intOf 64 value)) (natAbs (intOf 64 value))) r (now (out .exit)) ⌝ }
+{
+    if numerals::is_negative(value) {
+        return Size::Stops(NO_SCALAR);
+    }
+    let magnitude = numerals::magnitude(value);
+    if strings::is_scalar(magnitude) {
+        let mut buffer = [0u8; 4];
+        let n = strings::write_scalar(&mut buffer, magnitude as u32);
+        return Size::Bytes(put_padded(out, e, Mark::NoMark, &buffer[..n]));
+    }
+    Size::Stops(NO_SCALAR)
+}
+
+// Writes an integer's digits as text. Answers the length.
+fn write_signed(out: &mut [u8], negative: bool, magnitude: u64) -> usize
+    requires { ⌜ 21 ≤ length (now out) ⌝ }
+    ensures { λ r. ⌜ Wrote (now (out .entry)) (signedText negative magnitude) r (now (out .exit)) × (r ≤ 21) ⌝ }
+{
+    let n = numerals::decimal_len(magnitude);
+    if negative {
+        out[0] = b'-';
+        return 1 + numerals::write_digits(&mut out[1..], magnitude, 10, n, false);
+    }
+    numerals::write_digits(out, magnitude, 10, n, false)
+}
+
+// %s of an integer
+fn format_digits(out: &mut [u8], e: Element, value: u64) -> u64
+    ensures { λ r. ⌜ Put (now (out .entry)) (formatString e (signedText (isNegative (intOf 64 value)) (natAbs (intOf 64 value)))) r (now (out .exit)) × (r < 2 ^ 42) ⌝ }
+{
+    let mut buffer = [0u8; 21];
+    let n = write_signed(
+        &mut buffer,
+        numerals::is_negative(value),
+        numerals::magnitude(value),
+    );
+    format_string(out, e, &buffer[..n])
+}
+
+// An integer of this width that is not null.
+fn format_integer(out: &mut [u8], e: Element, form: IntegerForm, width: u32, value: u64) -> Size
+    ensures { λ r. ⌜ Sized (now (out .entry)) (integerText e form width value) r (now (out .exit)) ⌝ }
+{
+    match form {
+        IntegerForm::Numeral(radix) => Size::Bytes(put_numeral(
+            out,
+            e,
+            numeral_of(e, radix, width, value),
+        )),
+        IntegerForm::Scalar => format_char(out, e, value),
+        IntegerForm::Digits => Size::Bytes(format_digits(out, e, value)),
+    }
 }
 
 // A finite float.
-fn format_finite(e: Element, bits: u64) -> Planned
-    ensures { λ r. ⌜ r ≡ finitePlan e bits ⌝ }
+fn format_finite(out: &mut [u8], e: Element, bits: u64) -> u64
+    ensures { λ r. ⌜ Put (now (out .entry)) (finiteText e bits) r (now (out .exit)) × (r < 2 ^ 42) ⌝ }
 {
+    let width = e.width;
     let flags = e.flags;
     let precision = e.precision;
     let conversion = e.conversion;
@@ -40,179 +320,64 @@ fn format_finite(e: Element, bits: u64) -> Planned
     let mark = float_mark(flags, parts.negative);
     let float = binary64::hex_float(bits, precision);
     let n = binary64::hex_float_len(float);
-    let body = Body::Float {
-        parts: float,
-        upper: upper,
-    };
-    plans::lay_out(
-        e,
-        plans::fill_of(flags),
-        mark,
-        plans::hex_prefix(upper),
-        n,
-        body,
-    )
-}
-
-// NaN or an infinity.
-fn format_named(e: Element, mark: Mark, word: Word) -> Planned
-    ensures { λ r. ⌜ r ≡ namedFloat e mark word ⌝ }
-{
-    let flags = e.flags;
-    let conversion = e.conversion;
-    let n = words::word_len(word);
-    let body = Body::Named {
-        word: word,
-        len: n,
-        upper: conversions::is_upper(conversion),
-    };
-    plans::lay_out(
-        e,
-        plans::side_of(flags),
-        mark,
-        Prefix::NoPrefix,
-        n as u64,
-        body,
-    )
+    let frame = layout::frame_for(width_of(width), fill_of(flags), mark, hex_prefix(upper), n);
+    let total = layout::frame_len(frame) + n;
+    if total <= out.len() as u64 {
+        let a = layout::write_head(out, frame);
+        let b = a + binary64::write_hex_float(&mut out[a..], float, upper);
+        layout::write_tail(&mut out[b..], frame);
+    }
+    total
 }
 
 // %a
-fn format_hex_float(e: Element, bits: u64) -> Planned
-    ensures { λ r. ⌜ r ≡ hexFloatPlan e (categoryOf bits) bits ⌝ }
+fn format_hex_float(out: &mut [u8], e: Element, bits: u64) -> u64
+    ensures { λ r. ⌜ Put (now (out .entry)) (floatText e (categoryOf bits) bits) r (now (out .exit)) × (r < 2 ^ 42) ⌝ }
 {
     let flags = e.flags;
     let category = binary64::category(bits);
     match category {
-        FpCategory::Nan => format_named(e, Mark::NoMark, Word::NotANumber),
+        FpCategory::Nan => put_padded(out, e, Mark::NoMark, b"NaN"),
         FpCategory::Infinite => {
             let parts = binary64::to_parts(bits);
-            format_named(e, float_mark(flags, parts.negative), Word::Infinity)
+            put_padded(out, e, float_mark(flags, parts.negative), b"Infinity")
         }
-        FpCategory::Zero => format_finite(e, bits),
-        FpCategory::Subnormal => format_finite(e, bits),
-        FpCategory::Normal => format_finite(e, bits),
+        FpCategory::Zero => format_finite(out, e, bits),
+        FpCategory::Subnormal => format_finite(out, e, bits),
+        FpCategory::Normal => format_finite(out, e, bits),
     }
 }
 
 // A Boolean; null has the value 0.
-fn format_boolean(e: Element, value: u64) -> Planned
-    ensures { λ r. ⌜ r ≡ booleanPlan e Style.Truth value ⌝ }
+fn format_boolean(out: &mut [u8], e: Element, value: u64) -> u64
+    ensures { λ r. ⌜ Put (now (out .entry)) (textOf (valueText e F.Boolean false [] value)) r (now (out .exit)) × (r < 2 ^ 42) ⌝ }
 {
     if value == 0 {
-        return plans::format_word(e, Word::False);
+        return format_string(out, e, b"false");
     }
-    plans::format_word(e, Word::True)
+    format_string(out, e, b"true")
 }
 
-// How many bytes of a text are left at a precision.
-pub fn cut_text(precision: NumericParam, part: &[u8]) -> usize
-    ensures { λ r. ⌜ r ≡ cutPart precision (now (part .entry)) ⌝ }
-{
-    match precision {
-        NumericParam::FromArgument => part.len(),
-        NumericParam::Literal(p) => strings::cut_len(part, p as usize),
-    }
-}
-
-// %s of a text.
-fn format_str(e: Element, part: &[u8]) -> Planned
+// Writes an element for a row's entry where there is room for it: its kind byte, the text it names, its value.
+pub fn put_element(out: &mut [u8], e: Element, kind: u8, part: &[u8], value: u64) -> Size
     requires { ⌜ length (now part) < 2 ^ 32 ⌝ }
-    ensures { λ r. ⌜ r ≡ strPlan e (now (part .entry)) ⌝ }
-{
-    let flags = e.flags;
-    let precision = e.precision;
-    let conversion = e.conversion;
-    let n = cut_text(precision, part);
-    let body = Body::Part {
-        len: n as u32,
-        upper: conversions::is_upper(conversion),
-    };
-    plans::lay_out(
-        e,
-        plans::side_of(flags),
-        Mark::NoMark,
-        Prefix::NoPrefix,
-        n as u64,
-        body,
-    )
-}
-
-// A float: %a alone is printed.
-fn plan_float(e: Element, style: Style, bits: u64) -> Planned
-    ensures { λ r. ⌜ r ≡ floatPlan e style bits ⌝ }
-{
-    match style {
-        Style::HexFloat => format_hex_float(e, bits),
-        Style::Decimal => Planned::Stops(15),
-        Style::Octals => Planned::Stops(15),
-        Style::Hexadecimal => Planned::Stops(15),
-        Style::Character => Planned::Stops(15),
-        Style::Plain => Planned::Stops(15),
-        Style::Truth => Planned::Stops(15),
-        Style::NotPrinted => Planned::Stops(15),
-    }
-}
-
-// A Boolean: %b alone is printed.
-fn plan_boolean(e: Element, style: Style, value: u64) -> Planned
-    ensures { λ r. ⌜ r ≡ booleanPlan e style value ⌝ }
-{
-    match style {
-        Style::Truth => format_boolean(e, value),
-        Style::Decimal => Planned::Stops(15),
-        Style::Octals => Planned::Stops(15),
-        Style::Hexadecimal => Planned::Stops(15),
-        Style::Character => Planned::Stops(15),
-        Style::Plain => Planned::Stops(15),
-        Style::HexFloat => Planned::Stops(15),
-        Style::NotPrinted => Planned::Stops(15),
-    }
-}
-
-// A text: %s alone is printed.
-fn plan_text(e: Element, style: Style, part: &[u8]) -> Planned
-    requires { ⌜ length (now part) < 2 ^ 32 ⌝ }
-    ensures { λ r. ⌜ r ≡ textPlan e style (now (part .entry)) ⌝ }
-{
-    match style {
-        Style::Plain => format_str(e, part),
-        Style::Decimal => Planned::Stops(15),
-        Style::Octals => Planned::Stops(15),
-        Style::Hexadecimal => Planned::Stops(15),
-        Style::Character => Planned::Stops(15),
-        Style::HexFloat => Planned::Stops(15),
-        Style::Truth => Planned::Stops(15),
-        Style::NotPrinted => Planned::Stops(15),
-    }
-}
-
-// An element for a value of a kind.
-fn plan_value(e: Element, kind: Kind, null: bool, part: &[u8], value: u64) -> Planned
-    requires { ⌜ length (now part) < 2 ^ 32 ⌝ }
-    ensures { λ r. ⌜ r ≡ valuePlan e kind null (now (part .entry)) value ⌝ }
+    ensures { λ r. ⌜ Sized (now (out .entry)) (elementText e kind (now (part .entry)) value) r (now (out .exit)) ⌝ }
 {
     let conversion = e.conversion;
-    let style = plans::style_of(conversion);
-    match kind {
-        Kind::Signed(width) => {
-            if null {
-                return integers::format_null(e, style);
+    let form = conversions::form_of(conversion, kind);
+    match form {
+        Form::Integer {
+            form: written,
+            width,
+        } => {
+            if 128 <= kind {
+                return Size::Bytes(format_string(out, e, b"null"));
             }
-            integers::format_integer(e, style, width, value)
+            format_integer(out, e, written, width, value)
         }
-        Kind::Float64 => plan_float(e, style, value),
-        Kind::Boolean => plan_boolean(e, style, value),
-        Kind::Text => plan_text(e, style, part),
+        Form::HexFloat => Size::Bytes(format_hex_float(out, e, value)),
+        Form::Boolean => Size::Bytes(format_boolean(out, e, value)),
+        Form::Text => Size::Bytes(format_string(out, e, part)),
+        Form::NotPrinted => Size::Stops(NOT_PRINTED),
     }
-}
-
-// The plan of an element for a row's entry: its kind byte, the text it names, its value.
-pub fn plan_element(e: Element, kind: u8, part: &[u8], value: u64) -> Planned
-    requires { ⌜ length (now part) < 2 ^ 32 ⌝ }
-    ensures { λ r. ⌜ r ≡ elementPlan e kind (now (part .entry)) value ⌝ }
-{
-    let KindByte::Known(k) = conversions::kind_of(kind % 128) else {
-        return Planned::Stops(15);
-    };
-    plan_value(e, k, 128 <= kind, part, value)
 }

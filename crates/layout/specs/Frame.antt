@@ -1,5 +1,6 @@
 -- What stands around the text of a value: spaces, mark, prefix and zeros in front of it, spaces and a closing mark behind it.
 use Prim.Native.Nat.{ℕ, zero, suc, _+_, _-_}
+use Prim.Native.Char.{code}
 use mathlib.Core.Bool.{Bool, true, false}
 use mathlib.Core.List.{List, [], _∷_, _++_}
 use lib.ListN.{length, replicate}
@@ -19,10 +20,10 @@ byteText (suc b) = suc b ∷ []
 -- 01: "Mark: `(` and `)` or `-` for negatives, else `+`, else space." In front of the digits:
 abbrev pub openingByte : Mark → ℕ
 openingByte NoMark = 0
-openingByte Plus = 43
-openingByte Space = 32
-openingByte Minus = 45
-openingByte Brackets = 40
+openingByte Plus = code "+"
+openingByte Space = code " "
+openingByte Minus = code "-"
+openingByte Brackets = code "("
 
 -- and behind them:
 abbrev pub closingByte : Mark → ℕ
@@ -30,7 +31,7 @@ closingByte NoMark = 0
 closingByte Plus = 0
 closingByte Space = 0
 closingByte Minus = 0
-closingByte Brackets = 41
+closingByte Brackets = code ")"
 
 -- Whether it is the mark of a negative number.
 abbrev pub isMinus : Mark → Bool
@@ -43,26 +44,26 @@ isMinus Brackets = true
 -- 01: "`#` puts `0x`, `0X` or `0` in front, zeros of padding after it." Its zero and its letter:
 abbrev pub prefixZero : Prefix → ℕ
 prefixZero NoPrefix = 0
-prefixZero Octal = 48
-prefixZero HexLower = 48
-prefixZero HexUpper = 48
+prefixZero Octal = code "0"
+prefixZero HexLower = code "0"
+prefixZero HexUpper = code "0"
 
 abbrev pub prefixLetter : Prefix → ℕ
 prefixLetter NoPrefix = 0
 prefixLetter Octal = 0
-prefixLetter HexLower = 120
-prefixLetter HexUpper = 88
+prefixLetter HexLower = code "x"
+prefixLetter HexUpper = code "X"
 
 -- Mark and prefix, as they stand before zeros and digits.
 abbrev pub marks : Mark → Prefix → List ℕ
 marks m p = byteText (openingByte m) ++ (byteText (prefixZero p) ++ byteText (prefixLetter p))
 
 unfoldable pub spaces : ℕ → List ℕ
-spaces n = replicate n 32
+spaces n = replicate n (code " ")
 
 -- In front of the value's text: spaces, mark, prefix, zeros.
 unfoldable pub headText : Frame → List ℕ
-headText f = spaces (f .before) ++ (marks (f .mark) (f .prefix) ++ replicate (f .zeros) 48)
+headText f = spaces (f .before) ++ (marks (f .mark) (f .prefix) ++ replicate (f .zeros) (code "0"))
 
 -- Behind it. 01: "With `-` the spaces stand before the closing `)`, as in 000."
 unfoldable pub tailText : Frame → List ℕ
@@ -81,3 +82,7 @@ unfoldable pub frameOf : ℕ → Adjust → Mark → Prefix → ℕ → Frame
 frameOf width Right m p n = record { before = spare width m p n; mark = m; prefix = p; zeros = 0; after = 0 }
 frameOf width Zeros m p n = record { before = 0; mark = m; prefix = p; zeros = spare width m p n; after = 0 }
 frameOf width Left m p n = record { before = 0; mark = m; prefix = p; zeros = 0; after = spare width m p n }
+
+-- A text brought to a width: the length that counts is that of the text itself.
+unfoldable pub padded : ℕ → Adjust → Mark → Prefix → List ℕ → List ℕ
+padded width a m p body = framed (frameOf width a m p (length body)) body

@@ -5,7 +5,7 @@ ghost use mathlib.Core.Path.{_≡_};
 ghost use mathlib.Core.List.{List, _++_};
 ghost use Prim.Native.Nat.{_+_, _^_, _≤_, _<_};
 ghost use lib.ListN.{length};
-ghost use Rattle.writing.specs.Laid.{laid};
+ghost use Rattle.writing.specs.Laid.{Wrote};
 ghost use Rattle.layout.specs.Frame.{byteText, openingByte, closingByte, prefixZero, prefixLetter, marks, headText, tailText, spare, frameOf};
 
 // The mark of a number.
@@ -47,10 +47,10 @@ fn opening_byte(mark: Mark) -> u8
 {
     match mark {
         Mark::NoMark => 0,
-        Mark::Plus => 43,
-        Mark::Space => 32,
-        Mark::Minus => 45,
-        Mark::Brackets => 40,
+        Mark::Plus => b'+',
+        Mark::Space => b' ',
+        Mark::Minus => b'-',
+        Mark::Brackets => b'(',
     }
 }
 
@@ -63,7 +63,7 @@ fn closing_byte(mark: Mark) -> u8
         Mark::Plus => 0,
         Mark::Space => 0,
         Mark::Minus => 0,
-        Mark::Brackets => 41,
+        Mark::Brackets => b')',
     }
 }
 
@@ -73,9 +73,9 @@ fn prefix_zero(prefix: Prefix) -> u8
 {
     match prefix {
         Prefix::NoPrefix => 0,
-        Prefix::Octal => 48,
-        Prefix::HexLower => 48,
-        Prefix::HexUpper => 48,
+        Prefix::Octal => b'0',
+        Prefix::HexLower => b'0',
+        Prefix::HexUpper => b'0',
     }
 }
 
@@ -86,8 +86,8 @@ fn prefix_letter(prefix: Prefix) -> u8
     match prefix {
         Prefix::NoPrefix => 0,
         Prefix::Octal => 0,
-        Prefix::HexLower => 120,
-        Prefix::HexUpper => 88,
+        Prefix::HexLower => b'x',
+        Prefix::HexUpper => b'X',
     }
 }
 
@@ -104,7 +104,7 @@ fn byte_len(b: u8) -> u64
 // Writes a byte unless it is 0. Answers how many bytes that is.
 fn write_byte(out: &mut [u8], b: u8) -> usize
     requires { ⌜ length (byteText b) ≤ length (now out) ⌝ }
-    ensures { λ r. ⌜ (r ≡ length (byteText b)) × (now (out .exit) ≡ laid (now (out .entry)) (byteText b)) ⌝ }
+    ensures { λ r. ⌜ Wrote (now (out .entry)) (byteText b) r (now (out .exit)) ⌝ }
 {
     if b == 0 {
         return 0;
@@ -123,7 +123,7 @@ fn marks_len(mark: Mark, prefix: Prefix) -> u64
 // Writes three bytes, each unless it is 0. Answers how many bytes that is.
 fn write_bytes(out: &mut [u8], x: u8, y: u8, z: u8) -> usize
     requires { ⌜ length (byteText x ++ (byteText y ++ byteText z)) ≤ length (now out) ⌝ }
-    ensures { λ r. ⌜ (r ≡ length (byteText x ++ (byteText y ++ byteText z))) × (now (out .exit) ≡ laid (now (out .entry)) (byteText x ++ (byteText y ++ byteText z))) ⌝ }
+    ensures { λ r. ⌜ Wrote (now (out .entry)) (byteText x ++ (byteText y ++ byteText z)) r (now (out .exit)) ⌝ }
 {
     let a = write_byte(out, x);
     let b = a + write_byte(&mut out[a..], y);
@@ -133,7 +133,7 @@ fn write_bytes(out: &mut [u8], x: u8, y: u8, z: u8) -> usize
 // Writes mark and prefix. Answers their length.
 fn write_marks(out: &mut [u8], mark: Mark, prefix: Prefix) -> usize
     requires { ⌜ length (marks mark prefix) ≤ length (now out) ⌝ }
-    ensures { λ r. ⌜ (r ≡ length (marks mark prefix)) × (now (out .exit) ≡ laid (now (out .entry)) (marks mark prefix)) ⌝ }
+    ensures { λ r. ⌜ Wrote (now (out .entry)) (marks mark prefix) r (now (out .exit)) ⌝ }
 {
     let x = opening_byte(mark);
     let y = prefix_zero(prefix);
@@ -143,20 +143,21 @@ fn write_marks(out: &mut [u8], mark: Mark, prefix: Prefix) -> usize
 
 // What is left of the width beside mark, prefix and a text of n.
 fn spare_width(width: u32, mark: Mark, prefix: Prefix, n: u64) -> u32
-    requires { ⌜ n < 2 ^ 40 ⌝ }
     ensures { λ r. ⌜ r ≡ spare width mark prefix n ⌝ }
 {
-    let taken = marks_len(mark, prefix) + n + byte_len(closing_byte(mark));
+    let marks = marks_len(mark, prefix) + byte_len(closing_byte(mark));
     let whole = width as u64;
-    if whole <= taken {
+    if whole <= marks {
         return 0;
     }
-    (whole - taken) as u32
+    if whole - marks <= n {
+        return 0;
+    }
+    (whole - marks - n) as u32
 }
 
-// The frame that brings a text of n to the width; a width of 0 pads nothing. No text comes near the bound on n.
+// The frame that brings a text of n to the width; a width of 0 pads nothing.
 pub fn frame_for(width: u32, adjust: Adjust, mark: Mark, prefix: Prefix, n: u64) -> Frame
-    requires { ⌜ n < 2 ^ 40 ⌝ }
     ensures { λ r. ⌜ r ≡ frameOf width adjust mark prefix n ⌝ }
 {
     let rest = spare_width(width, mark, prefix, n);
@@ -187,7 +188,7 @@ pub fn frame_for(width: u32, adjust: Adjust, mark: Mark, prefix: Prefix, n: u64)
 
 // How many bytes a frame adds to the text within it; nothing is written.
 pub fn frame_len(f: Frame) -> u64
-    ensures { λ r. ⌜ r ≡ length (headText f) + length (tailText f) ⌝ }
+    ensures { λ r. ⌜ (r ≡ length (headText f) + length (tailText f)) × (r < 2 ^ 41) ⌝ }
 {
     let mark = f.mark;
     let prefix = f.prefix;
@@ -198,25 +199,25 @@ pub fn frame_len(f: Frame) -> u64
 // Writes what stands in front of the text. Answers its length.
 pub fn write_head(out: &mut [u8], f: Frame) -> usize
     requires { ⌜ length (headText f) ≤ length (now out) ⌝ }
-    ensures { λ r. ⌜ (r ≡ length (headText f)) × (now (out .exit) ≡ laid (now (out .entry)) (headText f)) ⌝ }
+    ensures { λ r. ⌜ Wrote (now (out .entry)) (headText f) r (now (out .exit)) ⌝ }
 {
     let mark = f.mark;
     let prefix = f.prefix;
     let before = f.before as usize;
     let zeros = f.zeros as usize;
-    let a = writing::write_fill(out, before, 32);
+    let a = writing::write_fill(out, before, b' ');
     let b = a + write_marks(&mut out[a..], mark, prefix);
-    b + writing::write_fill(&mut out[b..], zeros, 48)
+    b + writing::write_fill(&mut out[b..], zeros, b'0')
 }
 
 // Writes what stands behind the text. Answers its length.
 pub fn write_tail(out: &mut [u8], f: Frame) -> usize
     requires { ⌜ length (tailText f) ≤ length (now out) ⌝ }
-    ensures { λ r. ⌜ (r ≡ length (tailText f)) × (now (out .exit) ≡ laid (now (out .entry)) (tailText f)) ⌝ }
+    ensures { λ r. ⌜ Wrote (now (out .entry)) (tailText f) r (now (out .exit)) ⌝ }
 {
     let mark = f.mark;
     let after = f.after as usize;
     let closing = closing_byte(mark);
-    let a = writing::write_fill(out, after, 32);
+    let a = writing::write_fill(out, after, b' ');
     a + write_byte(&mut out[a..], closing)
 }

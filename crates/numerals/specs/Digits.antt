@@ -1,8 +1,9 @@
 -- Positional numerals: the digits of a whole number in a base, most significant first, and the number that digits denote.
-use Prim.Native.Nat.{ℕ, zero, suc, _+_, _*_, _/_, _%_}
-use mathlib.Core.Bool.{Bool, false}
+use Prim.Native.Nat.{ℕ, zero, suc, _+_, _-_, _*_, _/_, _%_}
+use Prim.Native.Char.{code}
+use mathlib.Core.Bool.{Bool, false, _||_}
 use mathlib.Core.List.{List, [], _∷_, _++_, map}
-use lib.Dec.{ltb}
+use lib.Dec.{T, ltb, eqb}
 use Rattle.writing.specs.Choose.{choose}
 
 -- The k lowest digits of n in base b, leading zeros included: the number n % b ^ k at k places.
@@ -33,7 +34,7 @@ numberOf b ds = numberFrom b 0 ds
 
 -- The letter of a digit: 0 to 9, then a to f, or A to F for a capital conversion.
 unfoldable pub letterOf : Bool → ℕ → ℕ
-letterOf upper d = choose (ltb d 10) (λ _. 48 + d) (λ _. choose upper (λ _. 55 + d) (λ _. 87 + d))
+letterOf upper d = choose (ltb d 10) (λ _. code "0" + d) (λ _. choose upper (λ _. code "A" + (d - 10)) (λ _. code "a" + (d - 10)))
 
 -- Digits as text.
 unfoldable pub lettersOf : Bool → List ℕ → List ℕ
@@ -45,3 +46,7 @@ numeral upper b n = lettersOf upper (digits b n)
 
 abbrev pub decimal : ℕ → List ℕ
 decimal n = numeral false 10 n
+
+-- The bases in use.
+abbrev pub IsBase : ℕ → Type 0
+IsBase b = T (eqb b 8 || eqb b 10 || eqb b 16)

@@ -5,24 +5,25 @@ ghost use mathlib.Core.Path.{_≡_};
 ghost use Prim.Native.Nat.{_+_, _-_, _/_, _%_, _^_, _≤_, _<_};
 ghost use lib.IntN.{natAbs};
 ghost use lib.ListN.{length, drop};
-ghost use Rattle.writing.specs.Laid.{laid};
-ghost use Rattle.numerals.specs.Digits.{digitsIn, places, letterOf, lettersOf, decimal};
+ghost use Rattle.writing.specs.Laid.{Wrote};
+ghost use Rattle.numerals.specs.Digits.{digitsIn, places, IsBase, letterOf, lettersOf, decimal};
 ghost use Rattle.numerals.specs.Grouping.{grouped};
 ghost use Rattle.numerals.specs.Integers.{intOf, isNegative};
-ghost use Rattle.numerals.specs.Params.{beginsParam, leadingDigits, numberTaken, paramAt};
+ghost use Rattle.numerals.specs.Params.{beginsParam, leadingDigits, numberAt, paramAt};
 
 // The letter of a digit below 16: small, or capital where upper is set.
 pub fn digit_letter(digit: u64, upper: bool) -> u8
     requires { ⌜ digit < 16 ⌝ }
     ensures { λ r. ⌜ r ≡ letterOf upper digit ⌝ }
 {
-    if digit < 10 {
-        return (48 + digit) as u8;
+    let n = digit as u8;
+    if n < 10 {
+        return b'0' + n;
     }
     if upper {
-        return (55 + digit) as u8;
+        return b'A' + (n - 10);
     }
-    (87 + digit) as u8
+    b'a' + (n - 10)
 }
 
 // How many decimal digits a number of at most four has: one for 0.
@@ -67,10 +68,24 @@ pub fn power_len(x: u64, shift: u32) -> u32
     (bits + shift - 1) / shift
 }
 
+// How many digits x has in base 8, 10 or 16.
+pub fn digits_len(x: u64, base: u64) -> usize
+    requires { ⌜ IsBase base ⌝ }
+    ensures { λ r. ⌜ r ≡ places base x ⌝ }
+{
+    if base == 8 {
+        return power_len(x, 3) as usize;
+    }
+    if base == 16 {
+        return power_len(x, 4) as usize;
+    }
+    decimal_len(x)
+}
+
 // Writes the n lowest digits of x in the base, leading zeros included. Answers n.
 fn write_places(out: &mut [u8], x: u64, base: u64, n: usize, upper: bool) -> usize
     requires { ⌜ (1 ≤ base) × (base ≤ 16) × (n ≤ length (now out)) ⌝ }
-    ensures { λ r. ⌜ (r ≡ n) × (now (out .exit) ≡ laid (now (out .entry)) (lettersOf upper (digitsIn base n x))) ⌝ }
+    ensures { λ r. ⌜ Wrote (now (out .entry)) (lettersOf upper (digitsIn base n x)) r (now (out .exit)) ⌝ }
 {
     let mut v = x;
     let mut i = n;
@@ -85,7 +100,7 @@ fn write_places(out: &mut [u8], x: u64, base: u64, n: usize, upper: bool) -> usi
 // The same. Where the base is known at a call, that call is compiled without division.
 pub fn write_digits(out: &mut [u8], x: u64, base: u64, n: usize, upper: bool) -> usize
     requires { ⌜ (1 ≤ base) × (base ≤ 16) × (n ≤ length (now out)) ⌝ }
-    ensures { λ r. ⌜ (r ≡ n) × (now (out .exit) ≡ laid (now (out .entry)) (lettersOf upper (digitsIn base n x))) ⌝ }
+    ensures { λ r. ⌜ Wrote (now (out .entry)) (lettersOf upper (digitsIn base n x)) r (now (out .exit)) ⌝ }
 {
     if base == 10 {
         return write_places(out, x, 10, n, upper);
@@ -107,19 +122,18 @@ pub fn grouped_len(x: u64) -> usize
     n + (n - 1) / 3
 }
 
-// Writes x in decimal with commas. Answers the length.
-pub fn write_grouped(out: &mut [u8], x: u64) -> usize
-    requires { ⌜ length (grouped (decimal x)) ≤ length (now out) ⌝ }
-    ensures { λ r. ⌜ (r ≡ length (grouped (decimal x))) × (now (out .exit) ≡ laid (now (out .entry)) (grouped (decimal x))) ⌝ }
+// Writes x in decimal with commas, n bytes in all. Answers n.
+pub fn write_grouped(out: &mut [u8], x: u64, n: usize) -> usize
+    requires { ⌜ (n ≡ length (grouped (decimal x))) × (n ≤ length (now out)) ⌝ }
+    ensures { λ r. ⌜ Wrote (now (out .entry)) (grouped (decimal x)) r (now (out .exit)) ⌝ }
 {
-    let n = grouped_len(x);
     let mut v = x;
     let mut run: u64 = 0;
     let mut i = n;
     while 0 < i {
         i = i - 1;
         if run == 3 {
-            out[i] = 44;
+            out[i] = b',';
             run = 0;
         } else {
             out[i] = digit_letter(v % 10, false);
@@ -163,7 +177,16 @@ pub enum NumericParam {
     FromArgument,
 }
 
-// The answer of take_numeric_param: the parameter and the place behind it, or a number above 2,147,483,647.
+// The largest number that a format may write.
+pub const LARGEST_NUMBER: u32 = 2147483647;
+
+// The answer of take_number: the number and the place behind its digits, or a number above the largest.
+pub enum Number {
+    Value { value: u32, next: usize },
+    TooLarge,
+}
+
+// The answer of take_numeric_param: the parameter and the place behind it, or a number above the largest.
 pub enum Taken {
     Param { param: NumericParam, next: usize },
     TooLarge,
@@ -173,48 +196,47 @@ pub enum Taken {
 fn begins_param(b: u8, zero: bool) -> bool
     ensures { λ r. ⌜ r ≡ beginsParam zero b ⌝ }
 {
-    if b < 48 {
+    if b < b'0' {
         return false;
     }
-    if 57 < b {
+    if b'9' < b {
         return false;
     }
-    if b == 48 {
+    if b == b'0' {
         return zero;
     }
     true
 }
 
 // The number of the digits of s from the place at on.
-fn take_number(s: &[u8], at: usize) -> Taken
-    requires { ⌜ at ≤ length (now s) ⌝ }
-    ensures { λ r. ⌜ r ≡ numberTaken at (leadingDigits (drop at (now (s .entry)))) ⌝ }
+pub fn take_number(s: &[u8], at: usize) -> Number
+    ensures { λ r. ⌜ r ≡ numberAt (now (s .entry)) at ⌝ }
 {
     let mut i = at;
     let mut value: u32 = 0;
     while i < s.len() {
         let b = s[i];
-        if b < 48 {
-            return Taken::Param {
-                param: NumericParam::Literal(value),
+        if b < b'0' {
+            return Number::Value {
+                value: value,
                 next: i,
             };
         }
-        if 57 < b {
-            return Taken::Param {
-                param: NumericParam::Literal(value),
+        if b'9' < b {
+            return Number::Value {
+                value: value,
                 next: i,
             };
         }
-        let digit = (b - 48) as u32;
-        if (2147483647 - digit) / 10 < value {
-            return Taken::TooLarge;
+        let digit = (b - b'0') as u32;
+        if (LARGEST_NUMBER - digit) / 10 < value {
+            return Number::TooLarge;
         }
         value = value * 10 + digit;
         i = i + 1;
     }
-    Taken::Param {
-        param: NumericParam::Literal(value),
+    Number::Value {
+        value: value,
         next: i,
     }
 }
@@ -225,7 +247,13 @@ pub fn take_numeric_param(s: &[u8], at: usize, zero: bool) -> Taken
 {
     if at < s.len() {
         if begins_param(s[at], zero) {
-            return take_number(s, at);
+            let Number::Value { value, next } = take_number(s, at) else {
+                return Taken::TooLarge;
+            };
+            return Taken::Param {
+                param: NumericParam::Literal(value),
+                next: next,
+            };
         }
     }
     Taken::Param {
@@ -241,10 +269,10 @@ pub fn digits_end(s: &[u8], at: usize) -> usize
     let mut end = at;
     while end < s.len() {
         let byte = s[end];
-        if byte < 48 {
+        if byte < b'0' {
             return end;
         }
-        if 57 < byte {
+        if b'9' < byte {
             return end;
         }
         end = end + 1;

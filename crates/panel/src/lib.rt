@@ -1,7 +1,6 @@
 // The panel's C entries: checking, measuring and printing on numbers and byte slices. panel.h has their meaning for C.
 use parsing::Checked;
 use printing::Outcome;
-use rows::RowRead;
 ghost use mathlib.Core.Path.{_≡_};
 ghost use mathlib.Core.Bool.{true};
 ghost use Prim.Native.Nat.{_*_, _/_, _≤_};
@@ -11,7 +10,6 @@ ghost use Rattle.printing.specs.Printing.{texts, printedText, endsFrom, measure
 ghost use Rattle.printing.specs.Demand.{Demanded};
 ghost use Rattle.printing.specs.declared.Outcome.the-variants.{Accepted};
 ghost use Rattle.writing.specs.Laid.{laid};
-ghost use Rattle.texts.specs.TextColumns.{isTextAlone};
 ghost use Rattle.panel.specs.Entries.{checkAnswer, printAnswer, endBytes, allBytes, endsRead, Holds, Prints};
 
 // number is 0 where the format is accepted; else it is the refusal's, with its place.
@@ -72,10 +70,10 @@ fn print_answer(outcome: Outcome) -> PrintAnswer
 
 // Checks a format against kinds.
 #[no_mangle]
-pub extern "C" fn panel_check(fmt: &[u8], kinds: &[u8]) -> CheckAnswer
+pub extern "C" fn panel_check<'a>(fmt: &'a [u8], kinds: &'a [u8]) -> CheckAnswer
     ensures { λ r. ⌜ r ≡ checkAnswer (checked (now (fmt .entry)) (now (kinds .entry))) ⌝ }
 {
-    check_answer(parsing::check(fmt, kinds))
+    check_answer(printing::check(fmt, kinds))
 }
 
 // Measures a row under a format.
@@ -87,7 +85,7 @@ pub extern "C" fn panel_measure<'a>(fmt: &'a [u8], row: &'a [u8]) -> PrintAnswer
 }
 
 // One end as four bytes, the low one first.
-fn put_end(ends: &mut [u8], end: u32)
+fn write_end(ends: &mut [u8], end: u32)
     requires { ⌜ 4 ≤ length (now ends) ⌝ }
     ensures { λ r. ⌜ now (ends .exit) ≡ laid (now (ends .entry)) (endBytes end) ⌝ }
 {
@@ -104,7 +102,7 @@ fn store_ends(ends: &mut [u8], slots: &[u32])
 {
     let mut k: usize = 0;
     while k < slots.len() {
-        put_end(&mut ends[4 * k..], slots[k]);
+        write_end(&mut ends[4 * k..], slots[k]);
         k = k + 1;
     }
 }
@@ -150,34 +148,7 @@ fn print_accepted<'a>(
     print_long(fmt, row, out, ends, bytes, pieces);
 }
 
-// Prints a format that is text alone: one piece, copied.
-fn print_alone<'a>(fmt: &'a [u8], row: &'a [u8], out: &mut [u8], ends: &mut [u8]) -> Outcome
-    requires { ⌜ isTextAlone (now fmt) ≡ true ⌝ }
-    ensures { λ r. ⌜ Prints (now (fmt .entry)) (now (row .entry)) (now (out .entry)) (now (ends .entry)) r (now (out .exit)) (now (ends .exit)) ⌝ }
-{
-    let RowRead::Row { count: _ } = rows::read_row(&row[0..]) else {
-        return Outcome::Refused {
-            number: 14,
-            place: 0,
-        };
-    };
-    let n = fmt.len();
-    let found = Outcome::Accepted {
-        length: n as u64,
-        pieces: 1,
-    };
-    let fitted = printing::fit(found, out.len() as u64, (ends.len() / 4) as u64);
-    if let Outcome::Accepted {
-        length: _,
-        pieces: _,
-    } = fitted {
-        writing::write_text(out, fmt);
-        put_end(ends, n as u32);
-    }
-    fitted
-}
-
-// Prints any format. The pass that excludes every refusal leaves a short text and its ends ready to be copied.
+// The pass that excludes every refusal leaves a short text and its ends ready to be copied.
 fn print_staged<'a>(fmt: &'a [u8], row: &'a [u8], out: &mut [u8], ends: &mut [u8]) -> Outcome
     ensures { λ r. ⌜ Prints (now (fmt .entry)) (now (row .entry)) (now (out .entry)) (now (ends .entry)) r (now (out .exit)) (now (ends .exit)) ⌝ }
 {
@@ -196,7 +167,7 @@ fn print_staged<'a>(fmt: &'a [u8], row: &'a [u8], out: &mut [u8], ends: &mut [u8
     answer
 }
 
-// Prints a row under a format. A format that is text alone is copied at once.
+// Prints a row under a format.
 #[no_mangle]
 pub extern "C" fn panel_print<'a>(
     fmt: &'a [u8],
@@ -209,8 +180,5 @@ pub extern "C" fn panel_print<'a>(
     ensures { λ r. ⌜ now (ends .exit) ≡ written (printed (now (fmt .entry)) (now (row .entry)) (length (now (out .entry))) (length (now (ends .entry)) / 4)) (now (ends .entry)) (allBytes (endsFrom 0 (texts (now (fmt .entry)) (now (row .entry))))) ⌝ }
     ensures { λ r. ⌜ Demanded (now (fmt .entry)) (now (row .entry)) (printed (now (fmt .entry)) (now (row .entry)) (length (now (out .entry))) (length (now (ends .entry)) / 4)) (now (out .exit)) (endsRead (now (ends .exit))) ⌝ }
 {
-    if texts::is_text_alone(fmt) {
-        return print_answer(print_alone(fmt, row, out, ends));
-    }
     print_answer(print_staged(fmt, row, out, ends))
 }

@@ -1,5 +1,5 @@
 -- A format checked against kinds. 01: "The result is the number of pieces and the largest argument index used, 0 if none."
-use Prim.Native.Nat.{ℕ, zero, suc}
+use Prim.Native.Nat.{ℕ, max}
 use mathlib.Core.Bool.{Bool, true, false, _&&_}
 use mathlib.Core.List.{List, [], _∷_}
 use lib.Dec.{leb, ltb}
@@ -9,27 +9,24 @@ use Rattle.utf8.specs.Utf8.{wellFormed}
 use Rattle.conversions.specs.Kinds.{kindOf}
 use Rattle.conversions.specs.declared.KindByte.{KindByte}
 use Rattle.conversions.specs.declared.KindByte.the-variants.{Known, Unknown}
-use Rattle.parsing.specs.Pieces.{start, pieceAt}
-use Rattle.parsing.specs.declared.Cursor.{Cursor}
-use Rattle.parsing.specs.declared.Step.{Step}
-use Rattle.parsing.specs.declared.Step.the-variants as P
+use Rattle.parsing.specs.Limits.{mostFormat}
+use Rattle.parsing.specs.Listed.{Placed, placed, ended}
+use Rattle.parsing.specs.declared.Piece.{Piece}
+use Rattle.parsing.specs.declared.Piece.the-variants.{Fixed, Byte, Element as AnElement}
 use Rattle.parsing.specs.declared.Ended.{Ended}
 use Rattle.parsing.specs.declared.Ended.the-variants.{Finished, Stopped}
 use Rattle.parsing.specs.declared.Checked.{Checked}
 use Rattle.parsing.specs.declared.Checked.the-variants.{Accepted, Refused}
 
--- Where reading ends: behind the last piece, or at the first refusal. The 513th step finds no piece, so 513 steps end it.
-abbrev pub afterStep : Step → Cursor → (Cursor → Ended) → Ended
-afterStep (P.Found piece next) c rest = rest next
-afterStep (P.Refused number place) c rest = Stopped number place
-afterStep P.End c rest = Finished c
+-- The argument that a piece uses, 0 for none, and the largest of them.
+abbrev pub argumentOf : Piece → ℕ
+argumentOf (Fixed begin len) = 0
+argumentOf (Byte b) = 0
+argumentOf (AnElement e) = e .argument
 
-unfoldable pub endFrom : ℕ → List ℕ → List ℕ → Cursor → Ended
-endFrom zero s ks c = Stopped 13 (c .at)
-endFrom (suc n) s ks c = afterStep (pieceAt s ks c) c (λ next. endFrom n s ks next)
-
-unfoldable pub ended : List ℕ → List ℕ → Ended
-ended s ks = endFrom 513 s ks start
+unfoldable pub largestOf : List Placed → ℕ
+largestOf [] = 0
+largestOf (p ∷ ps) = max (argumentOf (p .piece)) (largestOf ps)
 
 -- "over 64 kinds, or a kind not 1 to 7"
 abbrev pub isKnown : KindByte → Bool
@@ -40,14 +37,17 @@ unfoldable pub allKnown : List ℕ → Bool
 allKnown [] = true
 allKnown (k ∷ ks) = isKnown (kindOf k) && allKnown ks
 
-abbrev pub checkedEnd : Ended → Checked
-checkedEnd (Finished c) = Accepted (c .pieces) (c .largest)
-checkedEnd (Stopped number place) = Refused number place
+abbrev pub mostKinds : ℕ
+mostKinds = 64
+
+abbrev pub checkedEnd : Ended → List Placed → Checked
+checkedEnd Finished ps = Accepted (length ps) (largestOf ps)
+checkedEnd (Stopped number place) ps = Refused number place
 
 -- "Order: 1, 2, 3 ..; then pieces left to right"
 unfoldable pub checked : List ℕ → List ℕ → Checked
 checked s ks =
-    choose (ltb 4096 (length s)) (λ _. Refused 1 0)
+    choose (ltb mostFormat (length s)) (λ _. Refused 1 0)
     (λ _. choose (wellFormed s)
-    (λ _. choose (leb (length ks) 64 && allKnown ks) (λ _. checkedEnd (ended s ks)) (λ _. Refused 3 0))
+    (λ _. choose (leb (length ks) mostKinds && allKnown ks) (λ _. checkedEnd (ended s ks) (placed s ks)) (λ _. Refused 3 0))
     (λ _. Refused 2 0))

@@ -1,4 +1,7 @@
+pub mod Limits
 pub mod Pieces
-pub mod Check
 pub mod Listed
+pub mod Check
+pub mod Covers
 pub mod Causes
+pub mod Refusals

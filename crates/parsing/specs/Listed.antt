@@ -1,14 +1,20 @@
--- The pieces of a format in order, each with the part of the format that it takes up.
-use Prim.Native.Nat.{ℕ, zero, suc, _+_, _≤_, _<_}
-use mathlib.Core.Path.{_≡_}
+-- The pieces of a format in order, each with the part of the format that it takes up, and where reading them ends.
+use Prim.Native.Nat.{ℕ, zero, suc}
 use mathlib.Core.List.{List, [], _∷_}
+use lib.Dec.{ltb}
 use lib.ListN.{length}
+use Rattle.writing.specs.Choose.{choose}
 use Rattle.parsing.specs.Pieces.{start, pieceAt}
 use Rattle.parsing.specs.declared.Piece.{Piece}
-use Rattle.parsing.specs.declared.Piece.the-variants.{Fixed, NewLine, Element as AnElement}
 use Rattle.parsing.specs.declared.Cursor.{Cursor}
 use Rattle.parsing.specs.declared.Step.{Step}
-use Rattle.parsing.specs.declared.Step.the-variants.{Found, Refused, End}
+use Rattle.parsing.specs.declared.Step.the-variants.{Found, Refused}
+use Rattle.parsing.specs.declared.Ended.{Ended}
+use Rattle.parsing.specs.declared.Ended.the-variants.{Finished, Stopped}
+
+-- 01: "a 513th piece begins" is refused.
+abbrev pub mostPieces : ℕ
+mostPieces = 512
 
 -- A piece that stands in the format from one offset up to another.
 pub record Placed : Type 0 where
@@ -16,26 +22,29 @@ pub record Placed : Type 0 where
   pub from : ℕ
   pub to : ℕ
 
--- The pieces found from a cursor on, in at most n steps, up to a refusal or the end.
+-- The pieces from a cursor on, at most n of them, up to a refusal or the end of the `size` bytes; `step` is the piece at a cursor.
 abbrev pub andRest : Step → Cursor → (Cursor → List Placed) → List Placed
 andRest (Found p next) c rest = record { piece = p; from = c .at; to = next .at } ∷ rest next
-andRest (Refused number place) c rest = []
-andRest End c rest = []
+andRest (Refused number) c rest = []
 
-unfoldable pub placedFrom : ℕ → List ℕ → List ℕ → Cursor → List Placed
-placedFrom zero s ks c = []
-placedFrom (suc n) s ks c = andRest (pieceAt s ks c) c (λ next. placedFrom n s ks next)
+unfoldable pub placedFrom : ℕ → (Cursor → Step) → ℕ → Cursor → List Placed
+placedFrom zero step size c = []
+placedFrom (suc n) step size c =
+    choose (ltb (c .at) size) (λ _. andRest (step c) c (λ next. placedFrom n step size next)) (λ _. [])
 
+-- Where reading ends: behind the last byte, or at the first refusal, whose place is where that piece begins. 13 comes before the piece is looked at.
+abbrev pub afterStep : Step → Cursor → (Cursor → Ended) → Ended
+afterStep (Found p next) c rest = rest next
+afterStep (Refused number) c rest = Stopped number (c .at)
+
+unfoldable pub endFrom : ℕ → (Cursor → Step) → ℕ → Cursor → Ended
+endFrom zero step size c = choose (ltb (c .at) size) (λ _. Stopped 13 (c .at)) (λ _. Finished)
+endFrom (suc n) step size c =
+    choose (ltb (c .at) size) (λ _. afterStep (step c) c (λ next. endFrom n step size next)) (λ _. Finished)
+
+-- Of a format s against kinds ks.
 unfoldable pub placed : List ℕ → List ℕ → List Placed
-placed s ks = placedFrom 513 s ks start
+placed s ks = placedFrom mostPieces (pieceAt s ks) (length s) start
 
--- That pieces cover the bytes from a up to b without gap or overlap, none of them empty.
-abbrev pub Covers : ℕ → ℕ → List Placed → Type 0
-Covers a b [] = a ≡ b
-Covers a b (p ∷ ps) = (p .from ≡ a) × (a < p .to) × Covers (p .to) b ps
-
--- A fixed piece ends inside the format, and an element's argument counts from 1 up to the last kind.
-abbrev pub PieceIn : List ℕ → List ℕ → Piece → Type 0
-PieceIn s ks (Fixed st len) = st + len ≤ length s
-PieceIn s ks NewLine = Unit {0}
-PieceIn s ks (AnElement e) = (1 ≤ e .argument) × (e .argument ≤ length ks)
+unfoldable pub ended : List ℕ → List ℕ → Ended
+ended s ks = endFrom mostPieces (pieceAt s ks) (length s) start

@@ -1,98 +1,85 @@
 -- The next piece of a format from a cursor on. 01, "A format checked".
-use Prim.Native.Nat.{ℕ, zero, suc, _+_, _-_, max}
+use Prim.Native.Nat.{ℕ, zero, suc, _+_, _-_}
+use Prim.Native.Char.{code}
 use mathlib.Core.Bool.{Bool, true, false, _&&_}
 use mathlib.Core.List.{List, [], _∷_}
-use lib.Dec.{leb, ltb, eqb}
+use lib.Dec.{leb, eqb}
 use lib.ListN.{length, getD, drop}
 use Rattle.writing.specs.Choose.{choose}
-use Rattle.numerals.specs.Params.{isParam, leadingDigits, paramAt}
-use Rattle.numerals.specs.declared.NumericParam.the-variants.{Literal, FromArgument}
-use Rattle.numerals.specs.declared.Taken.{Taken}
-use Rattle.numerals.specs.declared.Taken.the-variants.{Param, TooLarge}
+use Rattle.numerals.specs.Params.{isParam, leadingDigits, numberAt}
+use Rattle.numerals.specs.declared.Number.{Number}
+use Rattle.numerals.specs.declared.Number.the-variants as N
 use Rattle.specifiers.specs.Specifier.{beginsWith, specifierAt}
 use Rattle.specifiers.specs.declared.Specifier.{Specifier}
 use Rattle.specifiers.specs.declared.Specifier.the-variants as S
 use Rattle.parsing.specs.declared.Index.{Index}
 use Rattle.parsing.specs.declared.Index.the-variants as I
 use Rattle.parsing.specs.declared.Piece.{Piece}
-use Rattle.parsing.specs.declared.Piece.the-variants.{Fixed, NewLine, Element as AnElement}
+use Rattle.parsing.specs.declared.Piece.the-variants.{Fixed, Byte, Element as AnElement}
 use Rattle.parsing.specs.declared.Cursor.{Cursor}
 use Rattle.parsing.specs.declared.Step.{Step}
-use Rattle.parsing.specs.declared.Step.the-variants.{Found, Refused, End}
+use Rattle.parsing.specs.declared.Step.the-variants.{Found, Refused}
 
--- Before the first piece: no argument counted, none used, no piece found.
+-- Before the first piece: no argument counted, none used.
 abbrev pub start : Cursor
-start = record { at = 0; count = 0; last = 0; pieces = 0; largest = 0 }
+start = record { at = 0; count = 0; last = 0 }
 
--- Behind a piece that uses no argument, and behind an element: the running count, the argument that `%<` takes, and the argument used.
+-- Behind a piece that uses no argument.
 abbrev pub passed : Cursor → ℕ → Cursor
-passed c at = record { at = at; count = c .count; last = c .last; pieces = c .pieces + 1; largest = c .largest }
-
-abbrev pub used : Cursor → ℕ → ℕ → ℕ → ℕ → Cursor
-used c at count last argument = record { at = at; count = count; last = last; pieces = c .pieces + 1; largest = max (c .largest) argument }
+passed c at = record { at = at; count = c .count; last = c .last }
 
 -- "Non-empty text up to the next `%` is one piece."
 unfoldable pub textLength : List ℕ → ℕ
 textLength [] = 0
-textLength (b ∷ bs) = choose (eqb b 37) (λ _. 0) (λ _. suc (textLength bs))
+textLength (b ∷ bs) = choose (eqb b (code "%")) (λ _. 0) (λ _. suc (textLength bs))
+
+-- The argument a of an element, the place behind its index, and the running count. 7 for an "argument index above the count of kinds".
+abbrev pub within : ℕ → ℕ → ℕ → ℕ → Index
+within kinds a next count = choose (leb a kinds) (λ _. I.Named a next count) (λ _. I.Refused 7)
 
 -- "Digits from 1 to 9 onward and then `$` name the argument. Otherwise a running count rises by one and names it, and those digits are judged only
 -- as a width". 5 for `%$`; 6 where these digits are a number that is too large.
-abbrev pub indexOf : Taken → ℕ → Index
-indexOf (Param (Literal n) next) count = I.Named n (next + 1) count
-indexOf (Param FromArgument next) count = I.Refused 5
-indexOf TooLarge count = I.Refused 6
+abbrev pub indexOf : Number → ℕ → ℕ → Index
+indexOf (N.Value n next) kinds count = within kinds n (next + 1) count
+indexOf N.TooLarge kinds count = I.Refused 6
 
 abbrev pub isIndex : List ℕ → ℕ → Bool
-isIndex s at = isParam false (drop at s) && beginsWith 36 (drop (at + length (leadingDigits (drop at s))) s)
+isIndex s at = isParam false (drop at s) && beginsWith (code "$") (drop (at + length (leadingDigits (drop at s))) s)
 
-unfoldable pub indexAt : List ℕ → ℕ → ℕ → Index
-indexAt s at count =
-    choose (beginsWith 36 (drop at s)) (λ _. I.Refused 5)
-    (λ _. choose (isIndex s at) (λ _. indexOf (paramAt false s at) count) (λ _. I.Named (count + 1) at (count + 1)))
-
--- An element of the argument a, read from `next` on. 7 for an "argument index above the count of kinds"; the place is that of the element's `%`.
-abbrev pub afterSpecifier : Cursor → ℕ → ℕ → ℕ → Specifier → Step
-afterSpecifier c a count last (S.Read e at) = Found (AnElement e) (used c at count last a)
-afterSpecifier c a count last (S.Refused number) = Refused number (c .at)
-
-abbrev pub elementOf : List ℕ → List ℕ → Cursor → ℕ → ℕ → ℕ → ℕ → Step
-elementOf s ks c next a count last =
-    choose (leb a (length ks)) (λ _. afterSpecifier c a count last (specifierAt s next a (getD ks (a - 1) 0))) (λ _. Refused 7 (c .at))
-
-abbrev pub afterIndex : List ℕ → List ℕ → Cursor → Index → Step
-afterIndex s ks c (I.Named a next count) = elementOf s ks c next a count a
-afterIndex s ks c (I.Refused number) = Refused number (c .at)
+unfoldable pub indexAt : List ℕ → ℕ → ℕ → ℕ → Index
+indexAt s kinds at count =
+    choose (beginsWith (code "$") (drop at s)) (λ _. I.Refused 5)
+    (λ _. choose (isIndex s at) (λ _. indexOf (numberAt s at) kinds count) (λ _. within kinds (count + 1) at (count + 1)))
 
 -- "`%<` takes the argument of the last element read without `<`, and changes no count": 4 before any element.
-abbrev pub sameArgument : List ℕ → List ℕ → Cursor → Step
-sameArgument s ks c =
-    choose (eqb (c .last) 0) (λ _. Refused 4 (c .at)) (λ _. elementOf s ks c (c .at + 2) (c .last) (c .count) (c .last))
+abbrev pub sameIndex : ℕ → ℕ → ℕ → ℕ → Index
+sameIndex kinds last next count = choose (eqb last 0) (λ _. I.Refused 4) (λ _. within kinds last next count)
 
--- Either way an element names its argument, the cursor standing at its `%`.
-abbrev pub sameIndex : ℕ → ℕ → ℕ → Index
-sameIndex last next count = choose (eqb last 0) (λ _. I.Refused 4) (λ _. I.Named last next count)
+-- Either way, the cursor standing at the element's `%`.
+unfoldable pub argumentAt : List ℕ → ℕ → Cursor → Index
+argumentAt s kinds c =
+    choose (beginsWith (code "<") (drop (c .at + 1) s)) (λ _. sameIndex kinds (c .last) (c .at + 2) (c .count))
+    (λ _. indexAt s kinds (c .at + 1) (c .count))
 
-abbrev pub argumentAt : List ℕ → Cursor → Index
-argumentAt s c =
-    choose (beginsWith 60 (drop (c .at + 1) s)) (λ _. sameIndex (c .last) (c .at + 2) (c .count)) (λ _. indexAt s (c .at + 1) (c .count))
+-- An element: its argument, and what stands behind the index.
+abbrev pub afterSpecifier : ℕ → ℕ → Specifier → Step
+afterSpecifier a count (S.Read e at) = Found (AnElement e) (record { at = at; count = count; last = a })
+afterSpecifier a count (S.Refused number) = Refused number
+
+abbrev pub afterIndex : List ℕ → List ℕ → Index → Step
+afterIndex s ks (I.Named a next count) = afterSpecifier a count (specifierAt s next a (getD ks (a - 1) 0))
+afterIndex s ks (I.Refused number) = Refused number
+
+unfoldable pub elementAt : List ℕ → List ℕ → Cursor → Step
+elementAt s ks c = afterIndex s ks (argumentAt s (length ks) c)
 
 -- "`%%` is a piece holding one `%`, `%n` a piece holding byte 10; neither uses an argument."
 abbrev pub afterPercent : List ℕ → List ℕ → Cursor → List ℕ → Step
 afterPercent s ks c bs =
-    choose (beginsWith 37 bs) (λ _. Found (Fixed (c .at + 1) 1) (passed c (c .at + 2)))
-    (λ _. choose (beginsWith 110 bs) (λ _. Found NewLine (passed c (c .at + 2)))
-    (λ _. choose (beginsWith 60 bs) (λ _. sameArgument s ks c) (λ _. afterIndex s ks c (indexAt s (c .at + 1) (c .count)))))
+    choose (beginsWith (code "%") bs) (λ _. Found (Fixed (c .at + 1) 1) (passed c (c .at + 2)))
+    (λ _. choose (beginsWith (code "n") bs) (λ _. Found (Byte 10) (passed c (c .at + 2))) (λ _. elementAt s ks c))
 
-abbrev pub pieceFrom : List ℕ → List ℕ → Cursor → List ℕ → Step
-pieceFrom s ks c [] = End
-pieceFrom s ks c (b ∷ bs) =
-    choose (eqb b 37) (λ _. afterPercent s ks c bs)
-    (λ _. Found (Fixed (c .at) (textLength (b ∷ bs))) (passed c (c .at + textLength (b ∷ bs))))
-
--- 13 where "a 513th piece begins", before it is looked at.
 unfoldable pub pieceAt : List ℕ → List ℕ → Cursor → Step
 pieceAt s ks c =
-    choose (ltb (c .at) (length s))
-    (λ _. choose (ltb (c .pieces) 512) (λ _. pieceFrom s ks c (drop (c .at) s)) (λ _. Refused 13 (c .at)))
-    (λ _. End)
+    choose (beginsWith (code "%") (drop (c .at) s)) (λ _. afterPercent s ks c (drop (c .at + 1) s))
+    (λ _. Found (Fixed (c .at) (textLength (drop (c .at) s))) (passed c (c .at + textLength (drop (c .at) s))))

@@ -12,7 +12,7 @@ fn next_percent(text: &[u8], at: usize) -> usize
 {
     let mut i = at;
     while i < text.len() {
-        if text[i] == 37 {
+        if text[i] == b'%' {
             return i;
         }
         i = i + 1;
@@ -28,7 +28,7 @@ fn is_in_block(text: &[u8], at: usize) -> bool
     let mut found = false;
     let mut i = 0;
     while i < 32 {
-        if text[at + i] == 37 {
+        if text[at + i] == b'%' {
             found = true;
         }
         i = i + 1;

@@ -5,9 +5,9 @@ use mathlib.Core.List.{List}
 use lib.ListN.{length, getD, take, drop}
 use Rattle.parsing.specs.Listed.{Placed, placed}
 use Rattle.parsing.specs.declared.Piece.{Piece}
-use Rattle.parsing.specs.declared.Piece.the-variants.{Fixed, NewLine, Element as AnElement}
+use Rattle.parsing.specs.declared.Piece.the-variants.{Fixed, Byte, Element as AnElement}
 use Rattle.rows.specs.Row.{kindsOf, kindByteOf, valueOf}
-use Rattle.pieces.specs.Texts.{pieceText}
+use Rattle.pieces.specs.PieceTexts.{pieceText}
 use Rattle.columns.specs.Columns.{ReadsBack}
 use Rattle.printing.specs.Printing.{texts, joined}
 use Rattle.printing.specs.declared.Outcome.{Outcome}
@@ -22,14 +22,14 @@ endBefore ends (suc k) = getD ends k 0
 abbrev pub cutOut : List ℕ → List ℕ → ℕ → List ℕ
 cutOut out ends k = take (getD ends k 0 - endBefore ends k) (drop (endBefore ends k) out)
 
--- The k-th piece of a format. (Behind the last, which is never asked for, stands `%n`.)
+-- The k-th piece of a format. (Behind the last, which is never asked for, stands an empty text.)
 abbrev pub pieceOf : List ℕ → List ℕ → ℕ → Piece
-pieceOf s row k = getD (placed s (kindsOf row)) k (record { piece = NewLine; from = 0; to = 0 }) .piece
+pieceOf s row k = getD (placed s (kindsOf row)) k (record { piece = Fixed 0 0; from = 0; to = 0 }) .piece
 
 -- "the piece of every %d %x %o %a, read by 01's rule, denotes its value": the row's under the argument that the element takes.
 abbrev pub DenotesValue : List ℕ → Piece → List ℕ → Type 0
-DenotesValue row (Fixed start len) bytes = Unit {0}
-DenotesValue row NewLine bytes = Unit {0}
+DenotesValue row (Fixed begin len) bytes = Unit {0}
+DenotesValue row (Byte b) bytes = Unit {0}
 DenotesValue row (AnElement e) bytes = ReadsBack e (kindByteOf row (e .argument)) (valueOf row (e .argument)) bytes
 
 -- Of a format s and a row, the length n and count k returned, and the output and ends left.

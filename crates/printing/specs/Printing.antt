@@ -8,12 +8,12 @@ use lib.ListN.{length}
 use Rattle.writing.specs.Choose.{choose}
 use Rattle.writing.specs.Laid.{laid}
 use Rattle.utf8.specs.Utf8.{wellFormed}
-use Rattle.parsing.specs.Check.{ended}
-use Rattle.parsing.specs.Listed.{Placed, placed}
+use Rattle.parsing.specs.Limits.{mostFormat}
+use Rattle.parsing.specs.Listed.{Placed, placed, ended}
 use Rattle.parsing.specs.declared.Ended.{Ended}
 use Rattle.parsing.specs.declared.Ended.the-variants.{Finished, Stopped}
 use Rattle.rows.specs.Row.{kindsOf, isRow}
-use Rattle.pieces.specs.Texts.{stopOf, pieceText}
+use Rattle.pieces.specs.PieceTexts.{pieceText, pieceStop}
 use Rattle.printing.specs.declared.Outcome.{Outcome}
 use Rattle.printing.specs.declared.Outcome.the-variants.{Accepted, Refused}
 
@@ -48,7 +48,7 @@ stopAt (some number) place others = some (record { number = number; place = plac
 
 unfoldable pub firstStop : List ℕ → List ℕ → List Placed → Option Stop
 firstStop s row [] = none
-firstStop s row (p ∷ ps) = stopAt (stopOf s row (p .piece)) (p .from) (firstStop s row ps)
+firstStop s row (p ∷ ps) = stopAt (pieceStop s row (p .piece)) (p .from) (firstStop s row ps)
 
 -- "It returns the text's length and piece count" where nothing stops the call.
 abbrev pub unlessStopped : Option Stop → Outcome → Outcome
@@ -56,20 +56,24 @@ unlessStopped none o = o
 unlessStopped (some t) o = Refused (t .number) (t .place)
 
 unfoldable pub measuredEnd : List ℕ → List ℕ → Ended → Outcome
-measuredEnd s row (Finished c) = unlessStopped (firstStop s row (placed s (kindsOf row))) (Accepted (length (printedText s row)) (c .pieces))
+measuredEnd s row Finished =
+    unlessStopped (firstStop s row (placed s (kindsOf row))) (Accepted (length (printedText s row)) (length (placed s (kindsOf row))))
 measuredEnd s row (Stopped number place) = Refused number place
 
 -- "Order: 1, 2, .. 14; then pieces left to right ..; then 15 and 16".
 unfoldable pub measured : List ℕ → List ℕ → Outcome
 measured s row =
-    choose (ltb 4096 (length s)) (λ _. Refused 1 0)
+    choose (ltb mostFormat (length s)) (λ _. Refused 1 0)
     (λ _. choose (wellFormed s)
     (λ _. choose (isRow row) (λ _. measuredEnd s row (ended s (kindsOf row))) (λ _. Refused 14 0))
     (λ _. Refused 2 0))
 
 -- "text longer than output or than 4,294,967,295, or more pieces than ends": 17, last of all.
+abbrev pub largestEnd : ℕ
+largestEnd = 4294967295
+
 abbrev pub within : ℕ → ℕ → Outcome → Outcome
-within room slots (Accepted n k) = choose (leb n room && leb n 4294967295 && leb k slots) (λ _. Accepted n k) (λ _. Refused 17 0)
+within room slots (Accepted n k) = choose (leb n room && leb n largestEnd && leb k slots) (λ _. Accepted n k) (λ _. Refused 17 0)
 within room slots (Refused number place) = Refused number place
 
 unfoldable pub printed : List ℕ → List ℕ → ℕ → ℕ → Outcome

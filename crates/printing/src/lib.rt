@@ -1,28 +1,46 @@
-// Measuring and printing a row under a format.
-// Ported from format_string.rs of datafusion-spark 55.2.0 (Apache-2.0; see NOTICE): Formatter::format. The original pushes the
-// text of each element to a string; here one pass finds every refusal and the text's length, and writes as far as it has
+// Checking a format against kinds, and measuring and printing a row under a format.
+// Ported from format_string.rs of datafusion-spark 55.2.0 (Apache-2.0; see NOTICE): the loops of Formatter::parse and Formatter::format. The original
+// pushes the text of each element to a string; here one pass over the pieces finds every refusal and the text's length, and writes as far as it has
 // room; what is lent to a caller is written only once no refusal is left.
-use numerals::NumericParam;
-use parsing::Cursor;
+use conversions::KindByte;
+use elements::Size;
+use parsing::Checked;
+use parsing::Ended;
 use parsing::Piece;
 use parsing::Step;
-use pieces::Size;
 use rows::RowRead;
-use texts::Column;
 ghost use mathlib.Core.Path.{_≡_};
-ghost use mathlib.Core.Bool.{true};
-ghost use Prim.Native.Nat.{_+_, _-_, _≤_, _<_};
+ghost use Prim.Native.Nat.{_+_, _≤_, _<_, max};
 ghost use lib.ListN.{length};
-ghost use Rattle.parsing.specs.Check.{ended};
-ghost use Rattle.rows.specs.Row.{kindsOf, kindByteOf};
-ghost use Rattle.parsing.specs.declared.Piece.the-variants as P;
-ghost use Rattle.pieces.specs.Texts.{Ready, SizeBelow};
-ghost use Rattle.plain.specs.Plain.{isLetter, isWhole, plainElement};
-ghost use Rattle.texts.specs.TextColumns.{textElement};
-ghost use Rattle.printing.specs.Printing.{texts, printedText, endsFrom, measuredEnd, measured, within, printed, written};
-ghost use Rattle.printing.specs.Passes.{Passed, TallyBelow, Filled, Added, Glanced, behind, withEnd, added, outcomeOf};
+ghost use Rattle.parsing.specs.Check.{argumentOf, isKnown, allKnown, checked};
+ghost use Rattle.parsing.specs.declared.Ended.the-variants.{Finished};
+ghost use Rattle.elements.specs.Sizes.{SizeBelow};
+ghost use Rattle.pieces.specs.Ready.{Ready};
+ghost use Rattle.printing.specs.Printing.{texts, printedText, endsFrom, measured, within, printed, written};
+ghost use Rattle.printing.specs.Passes.{TallyBelow, Walkable, Filled, Added, Walk, StopsAt, behind, withEnd, added, outcomeOf, checkedBy};
 ghost use Rattle.printing.specs.Demand.{Demanded};
-ghost use Rattle.printing.specs.declared.Outcome.the-variants.{Refused};
+
+// The limits of 01's table, "What stops a call": the bytes of a format, its pieces, the kinds, the largest end.
+pub const MOST_FORMAT: usize = 4096;
+
+pub const MOST_PIECES: usize = 512;
+
+pub const MOST_KINDS: usize = 64;
+
+pub const LARGEST_END: u64 = 4294967295;
+
+// The refusals of this crate, by their numbers in that table; the others are in `specifiers`, `parsing` and `elements`.
+pub const TOO_LONG: u8 = 1;
+
+pub const MALFORMED: u8 = 2;
+
+pub const NO_KINDS: u8 = 3;
+
+pub const TOO_MANY: u8 = 13;
+
+pub const BROKEN_ROW: u8 = 14;
+
+pub const NO_ROOM: u8 = 17;
 
 // The answer of a call: the text's length and the number of pieces, or a refusal with its number and place.
 pub enum Outcome {
@@ -36,19 +54,12 @@ pub enum Tally {
     Stops { number: u8, place: usize },
 }
 
-// A piece laid at a glance, with what is added up and the cursor behind it, or anything else.
-pub enum Glance {
-    Laid { tally: Tally, next: Cursor },
-    Other,
-}
-
-fn refused(number: u8, place: usize) -> Outcome
-    ensures { λ r. ⌜ r ≡ Refused number place ⌝ }
-{
-    Outcome::Refused {
-        number: number,
-        place: place,
-    }
+// What a pass comes to: where reading ended, what was added up, the pieces and the largest argument index.
+pub struct Walked {
+    pub end: Ended,
+    pub tally: Tally,
+    pub pieces: usize,
+    pub largest: usize,
 }
 
 // Where the next piece goes in so much room.
@@ -64,15 +75,14 @@ fn place_behind(tally: Tally, room: usize) -> usize
     room
 }
 
-// One more size, of the piece at the cursor, and its end. The first piece that is not printed stays.
-fn add_size(tally: Tally, size: Size, c: Cursor, ends: &mut [u32]) -> Tally
-    requires { ⌜ (SizeBelow size) × (c .pieces < 512) × (TallyBelow (c .pieces) tally) ⌝ }
-    ensures { λ r. ⌜ (r ≡ added (c .at) size tally) × (TallyBelow (c .pieces + 1) r) × (now (ends .exit) ≡ withEnd (c .pieces) r (now (ends .entry))) ⌝ }
+// One more size, of the k-th piece, which begins at a place, and its end. The first piece that is not printed stays.
+fn add_size(tally: Tally, size: Size, at: usize, k: usize, ends: &mut [u32]) -> Tally
+    requires { ⌜ (SizeBelow size) × (k < 512) × (TallyBelow k tally) ⌝ }
+    ensures { λ r. ⌜ (r ≡ added at size tally) × (TallyBelow (k + 1) r) × (now (ends .exit) ≡ withEnd k r (now (ends .entry))) ⌝ }
 {
     let Tally::Length(n) = tally else {
         return tally;
     };
-    let k = c.pieces;
     match size {
         Size::Bytes(m) => {
             let end = n + m;
@@ -83,136 +93,201 @@ fn add_size(tally: Tally, size: Size, c: Cursor, ends: &mut [u32]) -> Tally
         }
         Size::Stops(number) => Tally::Stops {
             number: number,
-            place: c.at,
+            place: at,
         },
     }
 }
 
-// One more piece, found at the cursor.
+// One more piece, the k-th, which begins at a place: behind the pieces so far, in the output's part from there on.
 fn add_piece<'a>(
     fmt: &'a [u8],
     row: &'a [u8],
     piece: Piece,
-    c: Cursor,
+    at: usize,
+    k: usize,
     tally: Tally,
     out: &mut [u8],
     ends: &mut [u32],
 ) -> Tally
-    requires { ⌜ (Ready (now fmt) (now row) piece) × (c .pieces < 512) × (TallyBelow (c .pieces) tally) ⌝ }
-    ensures { λ r. ⌜ Added (now (fmt .entry)) (now (row .entry)) piece c tally (now (out .entry)) (now (ends .entry)) r (now (out .exit)) (now (ends .exit)) ⌝ }
+    requires { ⌜ (Ready (now fmt) (now row) piece) × (k < 512) × (TallyBelow k tally) ⌝ }
+    ensures { λ r. ⌜ Added (now (fmt .entry)) (now (row .entry)) piece at k tally (now (out .entry)) (now (ends .entry)) r (now (out .exit)) (now (ends .exit)) ⌝ }
 {
     let from = place_behind(tally, out.len());
     let size = pieces::put_piece(&mut out[from..], fmt, row, piece);
-    add_size(tally, size, c, ends)
+    add_size(tally, size, at, k, ends)
 }
 
-// One more piece, fixed text from the cursor up to a place.
-fn add_fixed<'a>(
-    fmt: &'a [u8],
-    row: &'a [u8],
-    end: usize,
-    c: Cursor,
-    tally: Tally,
-    out: &mut [u8],
-    ends: &mut [u32],
-) -> Tally
-    requires { ⌜ (Ready (now fmt) (now row) (P.Fixed (c .at) (end - c .at))) × (c .pieces < 512) × (TallyBelow (c .pieces) tally) × (c .at ≤ end) ⌝ }
-    ensures { λ r. ⌜ Added (now (fmt .entry)) (now (row .entry)) (P.Fixed (c .at) (end - c .at)) c tally (now (out .entry)) (now (ends .entry)) r (now (out .exit)) (now (ends .exit)) ⌝ }
+// The argument that a piece uses, 0 for none.
+fn argument_of(piece: Piece) -> usize
+    ensures { λ r. ⌜ r ≡ argumentOf piece ⌝ }
 {
-    let at = c.at;
-    let from = place_behind(tally, out.len());
-    let size = pieces::put_fixed(&mut out[from..], fmt, row, at, end - at);
-    add_size(tally, size, c, ends)
+    match piece {
+        Piece::Fixed { start: _, len: _ } => 0,
+        Piece::Byte(_) => 0,
+        Piece::Element(e) => e.argument,
+    }
 }
 
-// One more piece, `%d` or `%x` at the cursor.
-fn add_plain<'a>(
-    fmt: &'a [u8],
-    row: &'a [u8],
-    letter: u8,
-    c: Cursor,
-    tally: Tally,
-    out: &mut [u8],
-    ends: &mut [u32],
-) -> Tally
-    requires { ⌜ (Ready (now fmt) (now row) (P.Element (plainElement letter (c .count + 1)))) × (c .pieces < 512) × (TallyBelow (c .pieces) tally) × (isLetter letter ≡ true) × (isWhole (kindByteOf (now row) (c .count + 1)) ≡ true) × (c .count < 512) ⌝ }
-    ensures { λ r. ⌜ Added (now (fmt .entry)) (now (row .entry)) (P.Element (plainElement letter (c .count + 1))) c tally (now (out .entry)) (now (ends .entry)) r (now (out .exit)) (now (ends .exit)) ⌝ }
+fn larger(a: usize, b: usize) -> usize
+    ensures { λ r. ⌜ r ≡ max a b ⌝ }
 {
-    let argument = c.count + 1;
-    let from = place_behind(tally, out.len());
-    let size = plain::put_plain(&mut out[from..], fmt, row, letter, argument);
-    add_size(tally, size, c, ends)
+    if a < b {
+        return b;
+    }
+    a
 }
 
-// One more piece, a column of text at the cursor.
-fn add_column<'a>(
-    fmt: &'a [u8],
-    row: &'a [u8],
-    left: bool,
-    width: NumericParam,
-    precision: NumericParam,
-    c: Cursor,
-    tally: Tally,
-    out: &mut [u8],
-    ends: &mut [u32],
-) -> Tally
-    requires { ⌜ (Ready (now fmt) (now row) (P.Element (textElement left width precision (c .count + 1)))) × (c .pieces < 512) × (TallyBelow (c .pieces) tally) × (kindByteOf (now row) (c .count + 1) ≡ 7) × (c .count < 512) ⌝ }
-    ensures { λ r. ⌜ Added (now (fmt .entry)) (now (row .entry)) (P.Element (textElement left width precision (c .count + 1))) c tally (now (out .entry)) (now (ends .entry)) r (now (out .exit)) (now (ends .exit)) ⌝ }
+// A refusal handed upward with its place. It is asked of refusals alone.
+fn stopped(step: Step, at: usize) -> Ended
+    ensures { λ r. ⌜ StopsAt step at r ⌝ }
 {
-    let argument = c.count + 1;
-    let from = place_behind(tally, out.len());
-    let size = texts::put_column(&mut out[from..], fmt, row, argument, left, width, precision);
-    add_size(tally, size, c, ends)
+    let Step::Refused { number } = step else {
+        return Ended::Finished;
+    };
+    Ended::Stopped {
+        number: number,
+        place: at,
+    }
 }
 
-// A piece at the cursor that is known at a glance: fixed text, a plain column or a column of text. For speed alone: next_piece and add_piece would do.
-fn add_glance<'a>(
+// A pass over the pieces. Where it prints, text and ends are written on the way as far as they have room.
+fn walk<'a>(
     fmt: &'a [u8],
     row: &'a [u8],
     kinds: &'a [u8],
-    c: Cursor,
-    tally: Tally,
+    prints: bool,
     out: &mut [u8],
     ends: &mut [u32],
-) -> Glance
-    requires { ⌜ (Passed (now fmt) (now row) (now kinds)) × (TallyBelow (c .pieces) tally) × (c .count ≤ c .pieces) ⌝ }
-    ensures { λ r. ⌜ Glanced (now (fmt .entry)) (now (row .entry)) (now (kinds .entry)) c tally (now (out .entry)) (now (ends .entry)) r (now (out .exit)) (now (ends .exit)) ⌝ }
+) -> Walked
+    requires { ⌜ Walkable prints (now fmt) (now row) (now kinds) ⌝ }
+    ensures { λ r. ⌜ Walk (now (fmt .entry)) (now (row .entry)) (now (kinds .entry)) prints (now (out .entry)) (now (ends .entry)) r (now (out .exit)) (now (ends .exit)) ⌝ }
 {
-    let at = c.at;
-    if plain::is_fixed(fmt, c) {
-        let end = at + parsing::scan::text_len(&fmt[at..]);
-        return Glance::Laid {
-            tally: add_fixed(fmt, row, end, c, tally, out, ends),
-            next: parsing::passed_by(c, end),
+    let mut c = parsing::first_cursor();
+    let mut tally = Tally::Length(0);
+    let mut k: usize = 0;
+    let mut largest: usize = 0;
+    while c.at < fmt.len() {
+        let at = c.at;
+        if MOST_PIECES <= k {
+            return Walked {
+                end: Ended::Stopped {
+                    number: TOO_MANY,
+                    place: at,
+                },
+                tally: tally,
+                pieces: k,
+                largest: largest,
+            };
+        }
+        let step = parsing::next_piece(fmt, kinds, c);
+        let Step::Found { piece, next } = step else {
+            return Walked {
+                end: stopped(step, at),
+                tally: tally,
+                pieces: k,
+                largest: largest,
+            };
         };
+        if prints {
+            tally = add_piece(fmt, row, piece, at, k, tally, out, ends);
+        }
+        largest = larger(largest, argument_of(piece));
+        k = k + 1;
+        c = next;
     }
-    if plain::is_plain(fmt, kinds, c) {
-        let count = c.count + 1;
-        return Glance::Laid {
-            tally: add_plain(fmt, row, fmt[at + 1], c, tally, out, ends),
-            next: parsing::used_by(c, at + 2, count, count, count),
-        };
-    }
-    let column = texts::column_at(fmt, kinds, c);
-    let Column::Text {
-        left,
-        width,
-        precision,
-        next: end,
-    } = column
-    else {
-        return Glance::Other;
-    };
-    let count = c.count + 1;
-    Glance::Laid {
-        tally: add_column(fmt, row, left, width, precision, c, tally, out, ends),
-        next: parsing::used_by(c, end, count, count, count),
+    Walked {
+        end: Ended::Finished,
+        tally: tally,
+        pieces: k,
+        largest: largest,
     }
 }
 
+fn is_known(k: KindByte) -> bool
+    ensures { λ r. ⌜ r ≡ isKnown k ⌝ }
+{
+    match k {
+        KindByte::Known(_) => true,
+        KindByte::Unknown => false,
+    }
+}
+
+// Whether every byte is a kind.
+fn all_known(kinds: &[u8]) -> bool
+    ensures { λ r. ⌜ r ≡ allKnown (now (kinds .entry)) ⌝ }
+{
+    let mut i = 0;
+    while i < kinds.len() {
+        if !is_known(conversions::kind_of(kinds[i])) {
+            return false;
+        }
+        i = i + 1;
+    }
+    true
+}
+
+// The answer of checking, from a pass.
+fn checked_of(w: Walked) -> Checked
+    ensures { λ r. ⌜ r ≡ checkedBy w ⌝ }
+{
+    let end = w.end;
+    let pieces = w.pieces;
+    let largest = w.largest;
+    match end {
+        Ended::Finished => Checked::Accepted {
+            pieces: pieces,
+            largest: largest,
+        },
+        Ended::Stopped { number, place } => Checked::Refused {
+            number: number,
+            place: place,
+        },
+    }
+}
+
+// A format checked against kinds. One pass over each: no byte is read more often than a bounded number of times (the digits of an index twice).
+pub fn check<'a>(fmt: &'a [u8], kinds: &'a [u8]) -> Checked
+    ensures { λ r. ⌜ r ≡ checked (now (fmt .entry)) (now (kinds .entry)) ⌝ }
+{
+    if MOST_FORMAT < fmt.len() {
+        return Checked::Refused {
+            number: TOO_LONG,
+            place: 0,
+        };
+    }
+    if !utf8::is_well_formed(fmt) {
+        return Checked::Refused {
+            number: MALFORMED,
+            place: 0,
+        };
+    }
+    if MOST_KINDS < kinds.len() {
+        return Checked::Refused {
+            number: NO_KINDS,
+            place: 0,
+        };
+    }
+    if !all_known(kinds) {
+        return Checked::Refused {
+            number: NO_KINDS,
+            place: 0,
+        };
+    }
+    let mut text = [0u8; 1];
+    let mut slots = [0u32; 1];
+    checked_of(walk(
+        fmt,
+        &fmt[..0],
+        kinds,
+        false,
+        &mut text[..0],
+        &mut slots[..0],
+    ))
+}
+
 // The outcome of a format that was read to its end.
-fn outcome_of(tally: Tally, pieces: usize) -> Outcome
-    ensures { λ r. ⌜ r ≡ outcomeOf tally pieces ⌝ }
+fn tallied_outcome(tally: Tally, pieces: usize) -> Outcome
+    ensures { λ r. ⌜ r ≡ outcomeOf Finished tally pieces ⌝ }
 {
     match tally {
         Tally::Length(n) => Outcome::Accepted {
@@ -226,49 +301,20 @@ fn outcome_of(tally: Tally, pieces: usize) -> Outcome
     }
 }
 
-// A pass over the pieces: the format's own refusals, then the first piece that is not printed, else the text's length. The text and its ends are written
-// on the way as far as they have room. What is known at a glance is taken so, for speed alone.
-fn lay_pieces<'a>(
-    fmt: &'a [u8],
-    row: &'a [u8],
-    kinds: &'a [u8],
-    out: &mut [u8],
-    ends: &mut [u32],
-) -> Outcome
-    requires { ⌜ Passed (now fmt) (now row) (now kinds) ⌝ }
-    ensures { λ r. ⌜ r ≡ measuredEnd (now (fmt .entry)) (now (row .entry)) (ended (now (fmt .entry)) (kindsOf (now (row .entry)))) ⌝ }
-    ensures { λ r. ⌜ Filled (now (fmt .entry)) (now (row .entry)) (now (out .entry)) (now (ends .entry)) r (now (out .exit)) (now (ends .exit)) ⌝ }
+// The outcome of a pass.
+fn outcome_of(w: Walked) -> Outcome
+    ensures { λ r. ⌜ r ≡ outcomeOf (w .end) (w .tally) (w .pieces) ⌝ }
 {
-    let mut c = parsing::first_cursor();
-    let mut tally = Tally::Length(0);
-    let mut left: u32 = 513;
-    while 0 < left {
-        if fmt.len() <= c.at {
-            return outcome_of(tally, c.pieces);
-        }
-        let glance = add_glance(fmt, row, kinds, c, tally, out, ends);
-        if let Glance::Laid { tally: added, next } = glance {
-            tally = added;
-            c = next;
-            left = left - 1;
-            continue;
-        }
-        let step = parsing::next_piece(&fmt[0..], &kinds[0..], c);
-        match step {
-            Step::Found { piece, next } => {
-                tally = add_piece(fmt, row, piece, c, tally, out, ends);
-                c = next;
-            }
-            Step::Refused { number, place } => {
-                return refused(number, place);
-            }
-            Step::End => {
-                return outcome_of(tally, c.pieces);
-            }
-        }
-        left = left - 1;
+    let end = w.end;
+    let tally = w.tally;
+    let pieces = w.pieces;
+    match end {
+        Ended::Stopped { number, place } => Outcome::Refused {
+            number: number,
+            place: place,
+        },
+        Ended::Finished => tallied_outcome(tally, pieces),
     }
-    refused(13, c.at)
 }
 
 // The outcome of measuring, and the text and its ends where these have room; what is left otherwise is not said.
@@ -276,25 +322,25 @@ pub fn stage<'a>(fmt: &'a [u8], row: &'a [u8], out: &mut [u8], ends: &mut [u32])
     ensures { λ r. ⌜ r ≡ measured (now (fmt .entry)) (now (row .entry)) ⌝ }
     ensures { λ r. ⌜ Filled (now (fmt .entry)) (now (row .entry)) (now (out .entry)) (now (ends .entry)) r (now (out .exit)) (now (ends .exit)) ⌝ }
 {
-    if 4096 < fmt.len() {
+    if MOST_FORMAT < fmt.len() {
         return Outcome::Refused {
-            number: 1,
+            number: TOO_LONG,
             place: 0,
         };
     }
     if !utf8::is_well_formed(fmt) {
         return Outcome::Refused {
-            number: 2,
+            number: MALFORMED,
             place: 0,
         };
     }
-    let RowRead::Row { count } = rows::read_row(&row[0..]) else {
+    let RowRead::Row { count } = rows::read_row(row) else {
         return Outcome::Refused {
-            number: 14,
+            number: BROKEN_ROW,
             place: 0,
         };
     };
-    lay_pieces(fmt, row, &row[6..6 + count], out, ends)
+    outcome_of(walk(fmt, row, &row[6..6 + count], true, out, ends))
 }
 
 // The text's length and the number of pieces; nothing is written.
@@ -314,14 +360,14 @@ pub fn fit(found: Outcome, room: u64, slots: u64) -> Outcome
         return found;
     };
     if length <= room {
-        if length <= 4294967295 {
+        if length <= LARGEST_END {
             if pieces <= slots {
                 return found;
             }
         }
     }
     Outcome::Refused {
-        number: 17,
+        number: NO_ROOM,
         place: 0,
     }
 }

@@ -1,6 +1,6 @@
 -- The row of values. 01: "Sizes first: n, 2 bytes, 0 to 64; t, 4 bytes, 0 to 32,768. Then two parallel arrays: n kind bytes and n values of 8
 -- bytes. Then t bytes of text. All little-endian, length exactly 6 + 9n + t."
-use Prim.Native.Nat.{ℕ, zero, suc, _+_, _-_, _*_, _/_, _%_, _^_, _≤_}
+use Prim.Native.Nat.{ℕ, zero, suc, _+_, _-_, _*_, _/_, _%_, _^_}
 use mathlib.Core.Bool.{Bool, true, false, _&&_, _||_}
 use mathlib.Core.List.{List, [], _∷_}
 use lib.Dec.{leb, ltb, eqb}
@@ -12,9 +12,14 @@ use Rattle.conversions.specs.declared.Kind.{Kind}
 use Rattle.conversions.specs.declared.Kind.the-variants as K
 use Rattle.conversions.specs.declared.KindByte.{KindByte}
 use Rattle.conversions.specs.declared.KindByte.the-variants.{Known, Unknown}
-use Rattle.rows.specs.declared.RowRead.{RowRead}
-use Rattle.rows.specs.declared.RowRead.the-variants.{Row, Broken}
 use Rattle.rows.specs.Numbers.{numberAt}
+
+-- The largest n and t.
+abbrev pub mostValues : ℕ
+mostValues = 64
+
+abbrev pub mostText : ℕ
+mostText = 32768
 
 -- n and t
 abbrev pub countOf : List ℕ → ℕ
@@ -44,6 +49,21 @@ isNull k = leb 128 k
 abbrev pub partOf : List ℕ → ℕ → List ℕ
 partOf text v = take (v / 2 ^ 32) (drop (v % 2 ^ 32) text)
 
+-- 7 is the kind of a text; any other kind names none.
+abbrev pub isTextKind : KindByte → Bool
+isTextKind (Known (K.Signed w)) = false
+isTextKind (Known K.Float64) = false
+isTextKind (Known K.Boolean) = false
+isTextKind (Known K.Text) = true
+isTextKind Unknown = false
+
+abbrev pub isText : ℕ → Bool
+isText k = isTextKind (kindOf (k % 128))
+
+-- The text that the argument a names.
+unfoldable pub namedText : List ℕ → ℕ → List ℕ
+namedText row a = choose (isText (kindByteOf row a)) (λ _. partOf (textOf row) (valueOf row a)) (λ _. [])
+
 -- The values of each kind: integers "sign-extended, within the kind"; every pattern of a float; "Boolean (0 or 1)"; a text whose offset and length
 -- have a "sum at most t, well-formed UTF-8".
 abbrev pub holds : Kind → List ℕ → ℕ → Bool
@@ -51,13 +71,6 @@ holds (K.Signed w) text v = ltb v (2 ^ (w - 1)) || leb (2 ^ 64 - 2 ^ (w - 1)) v
 holds K.Float64 text v = true
 holds K.Boolean text v = leb v 1
 holds K.Text text v = leb (v % 2 ^ 32 + v / 2 ^ 32) (length text) && wellFormed (partOf text v)
-
--- An integer kind has a width from 1 to 64.
-abbrev pub HasWidth : Kind → Type 0
-HasWidth (K.Signed w) = (1 ≤ w) × (w ≤ 64)
-HasWidth K.Float64 = Unit {0}
-HasWidth K.Boolean = Unit {0}
-HasWidth K.Text = Unit {0}
 
 -- "128 added to kinds 1 to 4 or 6 means null, with value 0."
 abbrev pub canBeNull : Kind → Bool
@@ -84,11 +97,7 @@ entriesFrom (suc k) row a = entryAt row a && entriesFrom k row (a + 1)
 unfoldable pub isRow : List ℕ → Bool
 isRow row =
     leb 6 (length row)
-    && leb (countOf row) 64
-    && leb (textSize row) 32768
+    && leb (countOf row) mostValues
+    && leb (textSize row) mostText
     && eqb (length row) (6 + 9 * countOf row + textSize row)
     && entriesFrom (countOf row) row 1
-
--- The answer of reading a row.
-unfoldable pub rowOf : List ℕ → RowRead
-rowOf row = choose (isRow row) (λ _. Row (countOf row)) (λ _. Broken)

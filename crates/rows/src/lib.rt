@@ -3,11 +3,12 @@ use conversions::Kind;
 use conversions::KindByte;
 ghost use mathlib.Core.Path.{_≡_};
 ghost use mathlib.Core.List.{[]};
-ghost use Prim.Native.Nat.{_+_, _*_, _%_, _≤_, _<_};
+ghost use Prim.Native.Nat.{_+_, _*_, _%_, _^_, _≤_, _<_};
 ghost use Rattle.conversions.specs.Kinds.{kindOf};
 ghost use lib.ListN.{length};
 ghost use Rattle.rows.specs.Numbers.{numberAt};
-ghost use Rattle.rows.specs.Row.{countOf, isNull, HasWidth, holds, canBeNull, entryOf, entriesFrom, rowOf};
+ghost use Rattle.rows.specs.Row.{countOf, kindByteOf, valueOf, isText, namedText, isNull, holds, canBeNull, entryOf, entriesFrom};
+ghost use Rattle.rows.specs.Arguments.{HasWidth, Argument, rowOf};
 
 fn wide(b: u8) -> u64
     ensures { λ r. ⌜ (r ≡ b) × (r < 256) ⌝ }
@@ -32,7 +33,7 @@ fn number4(s: &[u8], at: usize) -> u64
 }
 
 // Eight bytes as a number.
-pub fn number8(s: &[u8], at: usize) -> u64
+fn number8(s: &[u8], at: usize) -> u64
     requires { ⌜ at + 8 ≤ length (now s) ⌝ }
     ensures { λ r. ⌜ r ≡ numberAt 8 (now (s .entry)) at ⌝ }
 {
@@ -40,7 +41,7 @@ pub fn number8(s: &[u8], at: usize) -> u64
 }
 
 // How many arguments a row says it has.
-pub fn count_of(row: &[u8]) -> usize
+fn count_of(row: &[u8]) -> usize
     requires { ⌜ 2 ≤ length (now row) ⌝ }
     ensures { λ r. ⌜ r ≡ countOf (now (row .entry)) ⌝ }
 {
@@ -134,6 +135,11 @@ pub enum RowRead {
     Broken,
 }
 
+// The most values that a row may have, and the most bytes of text.
+pub const MOST_VALUES: u64 = 64;
+
+pub const MOST_TEXT: u64 = 32768;
+
 pub fn read_row(row: &[u8]) -> RowRead
     ensures { λ r. ⌜ r ≡ rowOf (now (row .entry)) ⌝ }
 {
@@ -142,10 +148,10 @@ pub fn read_row(row: &[u8]) -> RowRead
     }
     let n = number2(row, 0);
     let t = number4(row, 2);
-    if 64 < n {
+    if MOST_VALUES < n {
         return RowRead::Broken;
     }
-    if 32768 < t {
+    if MOST_TEXT < t {
         return RowRead::Broken;
     }
     let count = n as usize;
@@ -156,4 +162,50 @@ pub fn read_row(row: &[u8]) -> RowRead
         return RowRead::Row { count: count };
     }
     RowRead::Broken
+}
+
+// The kind byte of an argument.
+pub fn kind_byte(row: &[u8], argument: usize) -> u8
+    requires { ⌜ Argument (now row) argument ⌝ }
+    ensures { λ r. ⌜ r ≡ kindByteOf (now (row .entry)) argument ⌝ }
+{
+    row[5 + argument]
+}
+
+// The value of an argument.
+pub fn value_of(row: &[u8], argument: usize) -> u64
+    requires { ⌜ Argument (now row) argument ⌝ }
+    ensures { λ r. ⌜ r ≡ valueOf (now (row .entry)) argument ⌝ }
+{
+    let count = count_of(row);
+    number8(row, 6 + count + 8 * (argument - 1))
+}
+
+// Whether a kind byte is that of a text.
+fn is_text(byte: u8) -> bool
+    ensures { λ r. ⌜ r ≡ isText byte ⌝ }
+{
+    let KindByte::Known(kind) = conversions::kind_of(byte % 128) else {
+        return false;
+    };
+    match kind {
+        Kind::Signed(_) => false,
+        Kind::Float64 => false,
+        Kind::Boolean => false,
+        Kind::Text => true,
+    }
+}
+
+// The text that an argument of kind 7 names; any other kind names none.
+pub fn named_text<'a>(row: &'a [u8], argument: usize) -> &'a [u8]
+    requires { ⌜ Argument (now row) argument ⌝ }
+    ensures { λ r. ⌜ (now r ≡ namedText (now (row .entry)) argument) × (length (now r) < 2 ^ 32) ⌝ }
+{
+    if is_text(kind_byte(row, argument)) {
+        let value = value_of(row, argument);
+        let start = 6 + 9 * count_of(row) + (value % 4294967296) as usize;
+        let len = (value / 4294967296) as usize;
+        return &row[start..start + len];
+    }
+    &row[..0]
 }

@@ -45,13 +45,13 @@ unlessSet false number g = Set g
 
 unfoldable pub flagOf : Flags → ℕ → FlagStep
 flagOf f b =
-    named 35 (Set (withAlt f)) b
-    (λ _. named 48 (unlessSet (f .left) 8 (withZero f)) b
-    (λ _. named 45 (Set (withLeft f)) b
-    (λ _. named 32 (unlessSet (f .plus) 9 (withSpace f)) b
-    (λ _. named 43 (unlessSet (f .space) 9 (withPlus f)) b
-    (λ _. named 44 (Set (withComma f)) b
-    (λ _. named 40 (Set (withBracket f)) b
+    named "#" (Set (withAlt f)) b
+    (λ _. named "0" (unlessSet (f .left) 8 (withZero f)) b
+    (λ _. named "-" (Set (withLeft f)) b
+    (λ _. named " " (unlessSet (f .plus) 9 (withSpace f)) b
+    (λ _. named "+" (unlessSet (f .space) 9 (withPlus f)) b
+    (λ _. named "," (Set (withComma f)) b
+    (λ _. named "(" (Set (withBracket f)) b
     (λ _. Ends)))))))
 
 -- The flags that a text begins with, from the place i on, after the flags f; and the place behind them.

@@ -1,5 +1,6 @@
 -- An element behind its argument index. Java: `%[argument$][flags][width][.precision]conversion`.
 use Prim.Native.Nat.{ℕ, _+_}
+use Prim.Native.Char.{code}
 use mathlib.Core.Bool.{Bool, true, false, _||_}
 use mathlib.Core.List.{List, [], _∷_}
 use lib.Dec.{eqb}
@@ -25,6 +26,9 @@ use Rattle.specifiers.specs.declared.FlagsTaken.{FlagsTaken}
 use Rattle.specifiers.specs.declared.FlagsTaken.the-variants as F
 use Rattle.specifiers.specs.declared.LetterTaken.{LetterTaken}
 use Rattle.specifiers.specs.declared.LetterTaken.the-variants as L
+use Rattle.specifiers.specs.declared.Parts.{Parts}
+use Rattle.specifiers.specs.declared.PartsTaken.{PartsTaken}
+use Rattle.specifiers.specs.declared.PartsTaken.the-variants as P
 use Rattle.specifiers.specs.declared.Specifier.{Specifier}
 use Rattle.specifiers.specs.declared.Specifier.the-variants as S
 
@@ -35,7 +39,7 @@ beginsWith b (c ∷ cs) = eqb c b
 
 -- 01: "Then `.` with digits or with none; none means no precision."
 unfoldable pub precisionAt : List ℕ → ℕ → Taken
-precisionAt s at = choose (beginsWith 46 (drop at s)) (λ _. paramAt true s (at + 1)) (λ _. Param FromArgument at)
+precisionAt s at = choose (beginsWith (code ".") (drop at s)) (λ _. paramAt true s (at + 1)) (λ _. Param FromArgument at)
 
 -- The letter at the front of a text, from the place at on. 01's table: 10 for "no such letter, or end", 11 for "no such time letter, or end".
 abbrev pub oneLetter : Letter → ℕ → LetterTaken
@@ -58,8 +62,8 @@ timeCase true x = TimeUpper x
 abbrev pub letterFrom : List ℕ → ℕ → LetterTaken
 letterFrom [] at = L.Refused 10
 letterFrom (b ∷ bs) at =
-    choose (eqb b 116) (λ _. secondLetter (timeCase false) bs at)
-    (λ _. choose (eqb b 84) (λ _. secondLetter (timeCase true) bs at) (λ _. oneLetter (conversionOf b) at))
+    choose (eqb b (code "t")) (λ _. secondLetter (timeCase false) bs at)
+    (λ _. choose (eqb b (code "T")) (λ _. secondLetter (timeCase true) bs at) (λ _. oneLetter (conversionOf b) at))
 
 unfoldable pub timeLetterAt : List ℕ → ℕ → Bool → LetterTaken
 timeLetterAt s at upper = secondLetter (timeCase upper) (drop (at + 1) s) at
@@ -67,38 +71,36 @@ timeLetterAt s at upper = secondLetter (timeCase upper) (drop (at + 1) s) at
 unfoldable pub letterAt : List ℕ → ℕ → LetterTaken
 letterAt s at = letterFrom (drop at s) at
 
--- The element of the argument a, whose kind's byte is k, read from the place at on: flags, width, precision, letter, fit. 6 for a number that is
--- too large, 12 where the "letter does not fit the kind".
-abbrev pub fitted : ℕ → ℕ → Flags → NumericParam → NumericParam → ConversionType → ℕ → Specifier
-fitted a k f w p c at =
+-- Flags, width and precision from the place at on, and the place behind them. 6 for a number that is too large.
+abbrev pub afterPrecision : Flags → NumericParam → Taken → PartsTaken
+afterPrecision f w (Param p at) = P.Read (record { flags = f; width = w; precision = p }) at
+afterPrecision f w TooLarge = P.Refused 6
+
+abbrev pub afterWidth : List ℕ → Flags → Taken → PartsTaken
+afterWidth s f (Param w at) = afterPrecision f w (precisionAt s at)
+afterWidth s f TooLarge = P.Refused 6
+
+abbrev pub afterFlags : List ℕ → FlagsTaken → PartsTaken
+afterFlags s (F.Read f at) = afterWidth s f (paramAt false s at)
+afterFlags s (F.Refused number) = P.Refused number
+
+unfoldable pub partsAt : List ℕ → ℕ → PartsTaken
+partsAt s at = afterFlags s (flagsFrom (drop at s) at noFlags)
+
+-- The element of the argument a, whose kind's byte is k, read from the place at on: these, the letter, and 12 where the "letter does not fit the kind".
+abbrev pub fitted : ℕ → ℕ → Parts → ConversionType → ℕ → Specifier
+fitted a k x c at =
     choose (fitsKind c k)
-    (λ _. S.Read (record { argument = a; flags = f; width = w; precision = p; conversion = c }) at)
+    (λ _. S.Read (record { argument = a; flags = x .flags; width = x .width; precision = x .precision; conversion = c }) at)
     (λ _. S.Refused 12)
 
-abbrev pub afterLetter : ℕ → ℕ → Flags → NumericParam → NumericParam → LetterTaken → Specifier
-afterLetter a k f w p (L.Read c at) = fitted a k f w p c at
-afterLetter a k f w p (L.Refused number) = S.Refused number
+abbrev pub afterLetter : ℕ → ℕ → Parts → LetterTaken → Specifier
+afterLetter a k x (L.Read c at) = fitted a k x c at
+afterLetter a k x (L.Refused number) = S.Refused number
 
-abbrev pub afterPrecision : List ℕ → ℕ → ℕ → Flags → NumericParam → Taken → Specifier
-afterPrecision s a k f w (Param p at) = afterLetter a k f w p (letterAt s at)
-afterPrecision s a k f w TooLarge = S.Refused 6
-
-abbrev pub afterWidth : List ℕ → ℕ → ℕ → Flags → Taken → Specifier
-afterWidth s a k f (Param w at) = afterPrecision s a k f w (precisionAt s at)
-afterWidth s a k f TooLarge = S.Refused 6
-
--- A step's refusal handed upward.
-abbrev pub flagsRefusal : FlagsTaken → Specifier
-flagsRefusal (F.Read f at) = S.Refused 0
-flagsRefusal (F.Refused number) = S.Refused number
-
-abbrev pub letterRefusal : LetterTaken → Specifier
-letterRefusal (L.Read c at) = S.Refused 0
-letterRefusal (L.Refused number) = S.Refused number
-
-abbrev pub afterFlags : List ℕ → ℕ → ℕ → FlagsTaken → Specifier
-afterFlags s a k (F.Read f at) = afterWidth s a k f (paramAt false s at)
-afterFlags s a k (F.Refused number) = S.Refused number
+abbrev pub afterParts : List ℕ → ℕ → ℕ → PartsTaken → Specifier
+afterParts s a k (P.Read x at) = afterLetter a k x (letterAt s at)
+afterParts s a k (P.Refused number) = S.Refused number
 
 unfoldable pub specifierAt : List ℕ → ℕ → ℕ → ℕ → Specifier
-specifierAt s at a k = afterFlags s a k (flagsFrom (drop at s) at noFlags)
+specifierAt s at a k = afterParts s a k (partsAt s at)

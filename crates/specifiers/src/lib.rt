@@ -9,7 +9,21 @@ ghost use mathlib.Core.Path.{_≡_};
 ghost use Prim.Native.Nat.{_<_};
 ghost use lib.ListN.{length, drop};
 ghost use Rattle.specifiers.specs.Flags.{flagOf, flagsFrom, noFlags};
-ghost use Rattle.specifiers.specs.Specifier.{precisionAt, timeLetterAt, letterAt, flagsRefusal, letterRefusal, specifierAt};
+ghost use Rattle.specifiers.specs.Specifier.{beginsWith, precisionAt, timeLetterAt, letterAt, partsAt, specifierAt};
+ghost use Rattle.specifiers.specs.Refusals.{beginsLetter, FlagsHanded, PartsHanded, LetterHanded};
+
+// The refusals of this crate, by their numbers in 01's table, "What stops a call".
+pub const TOO_LARGE: u8 = 6;
+
+pub const ZERO_AFTER_MINUS: u8 = 8;
+
+pub const PLUS_AND_SPACE: u8 = 9;
+
+pub const NO_LETTER: u8 = 10;
+
+pub const NO_TIME_LETTER: u8 = 11;
+
+pub const UNFIT: u8 = 12;
 
 // The flags that were read. The original's names are alt_form, zero_pad, left_adj, space_sign, force_sign, grouping_separator and
 // negative_in_parentheses; a definition can name a field plainly only where it is one word.
@@ -45,6 +59,18 @@ pub enum LetterTaken {
     },
 }
 
+// What stands between an element's index and its letter.
+pub struct Parts {
+    pub flags: Flags,
+    pub width: NumericParam,
+    pub precision: NumericParam,
+}
+
+pub enum PartsTaken {
+    Read { parts: Parts, next: usize },
+    Refused { number: u8 },
+}
+
 // An element: the argument that it takes, and how it is printed.
 pub struct Element {
     pub argument: usize,
@@ -65,43 +91,43 @@ fn with_flag(f: Flags, b: u8) -> FlagStep
 {
     let mut g = f;
     match b {
-        35 => {
+        b'#' => {
             g.alternate = true;
             FlagStep::Set(g)
         }
-        48 => {
+        b'0' => {
             let left = f.left;
             if left {
-                return FlagStep::Clash(8);
+                return FlagStep::Clash(ZERO_AFTER_MINUS);
             }
             g.zero = true;
             FlagStep::Set(g)
         }
-        45 => {
+        b'-' => {
             g.left = true;
             FlagStep::Set(g)
         }
-        32 => {
+        b' ' => {
             let plus = f.plus;
             if plus {
-                return FlagStep::Clash(9);
+                return FlagStep::Clash(PLUS_AND_SPACE);
             }
             g.space = true;
             FlagStep::Set(g)
         }
-        43 => {
+        b'+' => {
             let space = f.space;
             if space {
-                return FlagStep::Clash(9);
+                return FlagStep::Clash(PLUS_AND_SPACE);
             }
             g.plus = true;
             FlagStep::Set(g)
         }
-        44 => {
+        b',' => {
             g.grouping = true;
             FlagStep::Set(g)
         }
-        40 => {
+        b'(' => {
             g.parentheses = true;
             FlagStep::Set(g)
         }
@@ -154,18 +180,26 @@ fn take_flags(fmt: &[u8], at: usize) -> FlagsTaken
 }
 
 // `.` and digits, or no precision.
-pub fn take_precision(fmt: &[u8], at: usize) -> Taken
+fn take_precision(fmt: &[u8], at: usize) -> Taken
     ensures { λ r. ⌜ r ≡ precisionAt (now (fmt .entry)) at ⌝ }
 {
-    if at < fmt.len() {
-        if fmt[at] == 46 {
-            return numerals::take_numeric_param(fmt, at + 1, true);
-        }
+    if is_byte(fmt, at, b'.') {
+        return numerals::take_numeric_param(fmt, at + 1, true);
     }
     Taken::Param {
         param: NumericParam::FromArgument,
         next: at,
     }
+}
+
+// Whether the byte at a place is b.
+pub fn is_byte(fmt: &[u8], at: usize, b: u8) -> bool
+    ensures { λ r. ⌜ r ≡ beginsWith b (drop at (now (fmt .entry))) ⌝ }
+{
+    if at < fmt.len() {
+        return fmt[at] == b;
+    }
+    false
 }
 
 // The letter behind t or T, at the place at + 1: upper for T.
@@ -175,10 +209,14 @@ fn take_time_letter(fmt: &[u8], at: usize, upper: bool) -> LetterTaken
 {
     let second = at + 1;
     if fmt.len() <= second {
-        return LetterTaken::Refused { number: 11 };
+        return LetterTaken::Refused {
+            number: NO_TIME_LETTER,
+        };
     }
     let TimeLetter::Component(x) = conversions::time_of(fmt[second]) else {
-        return LetterTaken::Refused { number: 11 };
+        return LetterTaken::Refused {
+            number: NO_TIME_LETTER,
+        };
     };
     if upper {
         return LetterTaken::Read {
@@ -197,17 +235,17 @@ fn take_letter(fmt: &[u8], at: usize) -> LetterTaken
     ensures { λ r. ⌜ r ≡ letterAt (now (fmt .entry)) at ⌝ }
 {
     if fmt.len() <= at {
-        return LetterTaken::Refused { number: 10 };
+        return LetterTaken::Refused { number: NO_LETTER };
     }
     let b = fmt[at];
-    if b == 116 {
+    if b == b't' {
         return take_time_letter(fmt, at, false);
     }
-    if b == 84 {
+    if b == b'T' {
         return take_time_letter(fmt, at, true);
     }
     let Letter::Conversion(c) = conversions::conversion_of(b) else {
-        return LetterTaken::Refused { number: 10 };
+        return LetterTaken::Refused { number: NO_LETTER };
     };
     LetterTaken::Read {
         conversion: c,
@@ -215,32 +253,58 @@ fn take_letter(fmt: &[u8], at: usize) -> LetterTaken
     }
 }
 
-// A refusal of the flags, handed upward.
-fn flags_refusal(t: FlagsTaken) -> Specifier
-    ensures { λ r. ⌜ r ≡ flagsRefusal t ⌝ }
+// A refusal handed upward. It is asked of refusals alone.
+fn flags_refusal(t: FlagsTaken) -> PartsTaken
+    ensures { λ r. ⌜ FlagsHanded t r ⌝ }
 {
-    match t {
-        FlagsTaken::Refused { number } => Specifier::Refused { number: number },
-        FlagsTaken::Read { flags: _, next: _ } => Specifier::Refused { number: 0 },
-    }
+    let FlagsTaken::Refused { number } = t else {
+        return PartsTaken::Refused { number: NO_LETTER };
+    };
+    PartsTaken::Refused { number: number }
+}
+
+fn parts_refusal(t: PartsTaken) -> Specifier
+    ensures { λ r. ⌜ PartsHanded t r ⌝ }
+{
+    let PartsTaken::Refused { number } = t else {
+        return Specifier::Refused { number: NO_LETTER };
+    };
+    Specifier::Refused { number: number }
 }
 
 fn letter_refusal(t: LetterTaken) -> Specifier
-    ensures { λ r. ⌜ r ≡ letterRefusal t ⌝ }
+    ensures { λ r. ⌜ LetterHanded t r ⌝ }
 {
-    match t {
-        LetterTaken::Refused { number } => Specifier::Refused { number: number },
-        LetterTaken::Read {
-            conversion: _,
-            next: _,
-        } => Specifier::Refused { number: 0 },
-    }
+    let LetterTaken::Refused { number } = t else {
+        return Specifier::Refused { number: NO_LETTER };
+    };
+    Specifier::Refused { number: number }
 }
 
-// An element behind its index: flags, width, precision, letter, and whether it fits the kind.
-pub fn take_conversion_specifier(fmt: &[u8], at: usize, argument: usize, kind: u8) -> Specifier
-    ensures { λ r. ⌜ r ≡ specifierAt (now (fmt .entry)) at argument kind ⌝ }
+// Whether a byte from A on stands at a place: no flag, digit or `.` does.
+fn begins_letter(fmt: &[u8], at: usize) -> bool
+    ensures { λ r. ⌜ r ≡ beginsLetter (drop at (now (fmt .entry))) ⌝ }
 {
+    if at < fmt.len() {
+        return b'A' <= fmt[at];
+    }
+    false
+}
+
+// Flags, width and precision. Where the letter follows at once, there is none of them to read.
+fn take_parts(fmt: &[u8], at: usize) -> PartsTaken
+    ensures { λ r. ⌜ r ≡ partsAt (now (fmt .entry)) at ⌝ }
+{
+    if begins_letter(fmt, at) {
+        return PartsTaken::Read {
+            parts: Parts {
+                flags: no_flags(),
+                width: NumericParam::FromArgument,
+                precision: NumericParam::FromArgument,
+            },
+            next: at,
+        };
+    }
     let read = take_flags(fmt, at);
     let FlagsTaken::Read { flags, next: w } = read else {
         return flags_refusal(read);
@@ -250,14 +314,32 @@ pub fn take_conversion_specifier(fmt: &[u8], at: usize, argument: usize, kind: u
         next: p,
     } = numerals::take_numeric_param(fmt, w, false)
     else {
-        return Specifier::Refused { number: 6 };
+        return PartsTaken::Refused { number: TOO_LARGE };
     };
     let Taken::Param {
         param: precision,
         next: l,
     } = take_precision(fmt, p)
     else {
-        return Specifier::Refused { number: 6 };
+        return PartsTaken::Refused { number: TOO_LARGE };
+    };
+    PartsTaken::Read {
+        parts: Parts {
+            flags: flags,
+            width: width,
+            precision: precision,
+        },
+        next: l,
+    }
+}
+
+// An element behind its index: flags, width, precision, letter, and whether it fits the kind.
+pub fn take_conversion_specifier(fmt: &[u8], at: usize, argument: usize, kind: u8) -> Specifier
+    ensures { λ r. ⌜ r ≡ specifierAt (now (fmt .entry)) at argument kind ⌝ }
+{
+    let taken = take_parts(fmt, at);
+    let PartsTaken::Read { parts, next: l } = taken else {
+        return parts_refusal(taken);
     };
     let letter = take_letter(fmt, l);
     let LetterTaken::Read {
@@ -268,6 +350,9 @@ pub fn take_conversion_specifier(fmt: &[u8], at: usize, argument: usize, kind: u
         return letter_refusal(letter);
     };
     if conversions::validate(conversion, kind) {
+        let flags = parts.flags;
+        let width = parts.width;
+        let precision = parts.precision;
         return Specifier::Read {
             element: Element {
                 argument: argument,
@@ -279,5 +364,5 @@ pub fn take_conversion_specifier(fmt: &[u8], at: usize, argument: usize, kind: u
             next: end,
         };
     }
-    Specifier::Refused { number: 12 }
+    Specifier::Refused { number: UNFIT }
 }

@@ -1,10 +1,13 @@
 -- Text cut to a precision, and in capitals. 01, "Characters, Booleans, text".
-use Prim.Native.Nat.{ℕ, zero, suc, _-_}
+use Prim.Native.Nat.{ℕ, zero, suc, _+_, _-_}
+use Prim.Native.Char.{code}
 use mathlib.Core.Bool.{Bool, true, false, _&&_}
 use mathlib.Core.List.{List, [], _∷_, map}
 use lib.Dec.{leb, ltb}
-use lib.ListN.{length, getD}
+use lib.ListN.{length, getD, take}
 use Rattle.writing.specs.Choose.{choose}
+use Rattle.numerals.specs.declared.NumericParam.{NumericParam}
+use Rattle.numerals.specs.declared.NumericParam.the-variants.{Literal, FromArgument}
 
 -- A byte that continues a character: Unicode's table 3-7 gives 80 to BF to all bytes but the first.
 abbrev pub continues : ℕ → Bool
@@ -19,9 +22,14 @@ backTo (suc n) s = choose (continues (getD s (suc n) 0)) (λ _. backTo n s) (λ 
 unfoldable pub cutLength : ℕ → List ℕ → ℕ
 cutLength n s = choose (ltb n (length s)) (λ _. backTo n s) (λ _. length s)
 
+-- The part of s that a precision leaves; without one all of it.
+unfoldable pub cutTo : NumericParam → List ℕ → List ℕ
+cutTo FromArgument s = s
+cutTo (Literal n) s = take (cutLength n s) s
+
 -- "capitals change a to z only"
 unfoldable pub capital : ℕ → ℕ
-capital b = choose (leb 97 b && leb b 122) (λ _. b - 32) (λ _. b)
+capital b = choose (leb (code "a") b && leb b (code "z")) (λ _. b - code "a" + code "A") (λ _. b)
 
 unfoldable pub cased : Bool → List ℕ → List ℕ
 cased upper s = choose upper (λ _. map capital s) (λ _. s)

@@ -1,12 +1,13 @@
 // Text values: cut to a precision, in capitals, and characters by number.
 // Ported from format_string.rs of datafusion-spark 55.2.0 (Apache-2.0; see NOTICE): the cut of format_str, the capitals of
 // format_string, and codepoint_to_char with the encoding of format_char.
+use numerals::NumericParam;
 ghost use mathlib.Core.Path.{_≡_};
 ghost use mathlib.Core.List.{map};
 ghost use Prim.Native.Nat.{_≤_, _<_};
 ghost use lib.ListN.{length};
-ghost use Rattle.writing.specs.Laid.{laid};
-ghost use Rattle.strings.specs.Cut.{backTo, cutLength, capital};
+ghost use Rattle.writing.specs.Laid.{Wrote};
+ghost use Rattle.strings.specs.Cut.{backTo, cutLength, cutTo, capital, cased};
 ghost use Rattle.strings.specs.Scalars.{isScalar, utf8Of};
 
 // The last place up to n that does not stand inside a character.
@@ -28,7 +29,7 @@ fn char_start(s: &[u8], n: usize) -> usize
 }
 
 // How many bytes of s are left at a precision of n.
-pub fn cut_len(s: &[u8], n: usize) -> usize
+fn cut_len(s: &[u8], n: usize) -> usize
     ensures { λ r. ⌜ r ≡ cutLength n (now (s .entry)) ⌝ }
 {
     if n < s.len() {
@@ -37,23 +38,36 @@ pub fn cut_len(s: &[u8], n: usize) -> usize
     s.len()
 }
 
+// The part of a text that a precision leaves.
+pub fn cut<'a>(precision: NumericParam, text: &'a [u8]) -> &'a [u8]
+    ensures { λ r. ⌜ now r ≡ cutTo precision (now (text .entry)) ⌝ }
+{
+    match precision {
+        NumericParam::FromArgument => &text[0..],
+        NumericParam::Literal(p) => {
+            let n = cut_len(text, p as usize);
+            &text[..n]
+        }
+    }
+}
+
 // A small letter as a capital, any other byte as it is.
-pub fn to_upper(b: u8) -> u8
+fn to_upper(b: u8) -> u8
     ensures { λ r. ⌜ r ≡ capital b ⌝ }
 {
-    if b < 97 {
+    if b < b'a' {
         return b;
     }
-    if 122 < b {
+    if b'z' < b {
         return b;
     }
-    b - 32
+    b - b'a' + b'A'
 }
 
 // Copies the text in capitals. Answers its length.
-pub fn write_upper(out: &mut [u8], text: &[u8]) -> usize
+fn write_upper(out: &mut [u8], text: &[u8]) -> usize
     requires { ⌜ length (now text) ≤ length (now out) ⌝ }
-    ensures { λ r. ⌜ (r ≡ length (now (text .entry))) × (now (out .exit) ≡ laid (now (out .entry)) (map capital (now (text .entry)))) ⌝ }
+    ensures { λ r. ⌜ Wrote (now (out .entry)) (map capital (now (text .entry))) r (now (out .exit)) ⌝ }
 {
     let mut i = 0;
     while i < text.len() {
@@ -61,6 +75,17 @@ pub fn write_upper(out: &mut [u8], text: &[u8]) -> usize
         i = i + 1;
     }
     i
+}
+
+// Copies a text, in capitals where upper is set. Answers its length.
+pub fn write_cased(out: &mut [u8], text: &[u8], upper: bool) -> usize
+    requires { ⌜ length (now text) ≤ length (now out) ⌝ }
+    ensures { λ r. ⌜ Wrote (now (out .entry)) (cased upper (now (text .entry))) r (now (out .exit)) ⌝ }
+{
+    if upper {
+        return write_upper(out, text);
+    }
+    writing::write_text(out, text)
 }
 
 // Whether a number is a Unicode scalar value.
@@ -76,26 +101,10 @@ pub fn is_scalar(c: u64) -> bool
     c <= 0x10ffff
 }
 
-// How many bytes a scalar value has in UTF-8.
-pub fn scalar_len(c: u32) -> usize
-    ensures { λ r. ⌜ r ≡ length (utf8Of c) ⌝ }
-{
-    if c < 0x80 {
-        return 1;
-    }
-    if c < 0x800 {
-        return 2;
-    }
-    if c < 0x10000 {
-        return 3;
-    }
-    4
-}
-
 // Writes the UTF-8 bytes of a scalar value. Answers how many these are.
 pub fn write_scalar(out: &mut [u8], c: u32) -> usize
     requires { ⌜ (c ≤ 0x10ffff) × (length (utf8Of c) ≤ length (now out)) ⌝ }
-    ensures { λ r. ⌜ (r ≡ length (utf8Of c)) × (now (out .exit) ≡ laid (now (out .entry)) (utf8Of c)) ⌝ }
+    ensures { λ r. ⌜ Wrote (now (out .entry)) (utf8Of c) r (now (out .exit)) ⌝ }
 {
     if c < 0x80 {
         out[0] = c as u8;

@@ -1,2 +1,3 @@
 pub mod Choose
+pub mod Text
 pub mod Laid

@@ -1,13 +1,14 @@
 // Writers of bytes into the start of a lent slice. What lies past the text keeps its content.
 ghost use mathlib.Core.Path.{_≡_};
+ghost use mathlib.Core.List.{[], _∷_};
 ghost use Prim.Native.Nat.{_≤_};
 ghost use lib.ListN.{length, replicate};
-ghost use Rattle.writing.specs.Laid.{laid, laidIfRoom};
+ghost use Rattle.writing.specs.Laid.{laid, Wrote, Put};
 
 // Copies the text. Answers its length.
 pub fn write_text(out: &mut [u8], text: &[u8]) -> usize
     requires { ⌜ length (now text) ≤ length (now out) ⌝ }
-    ensures { λ r. ⌜ (r ≡ length (now (text .entry))) × (now (out .exit) ≡ laid (now (out .entry)) (now (text .entry))) ⌝ }
+    ensures { λ r. ⌜ Wrote (now (out .entry)) (now (text .entry)) r (now (out .exit)) ⌝ }
 {
     let mut i = 0;
     while i < text.len() {
@@ -32,10 +33,20 @@ pub fn write_fill(out: &mut [u8], n: usize, b: u8) -> usize
 
 // Copies the text where there is room for it. Answers its length.
 pub fn put_text(out: &mut [u8], text: &[u8]) -> usize
-    ensures { λ r. ⌜ (r ≡ length (now (text .entry))) × (now (out .exit) ≡ laidIfRoom (now (out .entry)) (now (text .entry))) ⌝ }
+    ensures { λ r. ⌜ Put (now (out .entry)) (now (text .entry)) r (now (out .exit)) ⌝ }
 {
     if text.len() <= out.len() {
         write_text(out, text);
     }
     text.len()
+}
+
+// Writes a byte where there is room for it. Answers 1.
+pub fn put_byte(out: &mut [u8], b: u8) -> usize
+    ensures { λ r. ⌜ Put (now (out .entry)) (b ∷ []) r (now (out .exit)) ⌝ }
+{
+    if 0 < out.len() {
+        out[0] = b;
+    }
+    1
 }

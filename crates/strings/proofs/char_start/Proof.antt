@@ -4,7 +4,7 @@ use mathlib.Core.Path.{_≡_, refl, sym, ap, _∙_}
 use lib.ListN.{getD}
 use native.Mathlib.Omega.{arith}
 use Rattle.strings.specs.Cut.{backTo}
-use Rattle.strings.proofs.Cut.{back-start, back-inside, starts-below, starts-above, goes-on}
+use Rattle.strings.proofs.Cuts.{back-start, back-inside, starts-below, starts-above, goes-on}
 use borrow.Author.Needs.{needs}
 use Rattle.strings.proofs.char_start.Statement.{statement}
 use Rattle.strings.proofs.char_start.Tie as tie

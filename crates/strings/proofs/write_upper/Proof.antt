@@ -8,7 +8,7 @@ use native.Mathlib.Omega.{arith}
 use Rattle.writing.specs.Laid.{laid}
 use Rattle.writing.proofs.Laid.{laid-none, copy-step}
 use Rattle.strings.specs.Cut.{capital}
-use Rattle.strings.proofs.Cut.{upper-at}
+use Rattle.strings.proofs.Cuts.{upper-at}
 use borrow.Author.Needs.{needs}
 use Rattle.strings.proofs.write_upper.Statement.{statement}
 use Rattle.strings.proofs.write_upper.Tie as tie

@@ -1,4 +1,0 @@
-pub mod Cases
-pub mod Next
-pub mod Texts
-pub mod Written

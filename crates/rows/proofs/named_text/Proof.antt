@@ -1,0 +1,91 @@
+-- `rows::named_text` meets its contract. Assumes nothing.
+use Prim.Native.Nat.{_+_, _*_, _/_, _%_, _^_, _≤_}
+use mathlib.Core.Path.{_≡_, sym, ap, _∙_}
+use mathlib.Core.Bool.{true}
+use native.Mathlib.Nat.{add-sub-cancel-left}
+use native.Mathlib.Omega.{arith}
+use lib.ListN.{length, length-take}
+use Rattle.rows.specs.Row.{kindByteOf}
+use Rattle.pieces.specs.Texts.{isText}
+use Rattle.rows.proofs.Rows.{room, text-room, text-part, text-none}
+use borrow.Author.Needs.{needs}
+use Rattle.rows.proofs.named_text.Statement.{statement}
+use Rattle.rows.proofs.named_text.Tie as tie
+
+kind-byte-requires : tie.Need-kind-byte-requires
+kind-byte-requires c κs = search needs
+
+is-text-requires : tie.Need-is-text-requires
+is-text-requires c κs = search needs
+
+value-of-requires : tie.Need-value-of-requires
+value-of-requires c κs = search needs
+
+-- the kind of the argument is 7
+is-a-text : (c : tie.Then1) → isText (kindByteOf (c .before .before .before .before .args .row .now) (c .before .before .before .before .args .argument)) ≡ true
+is-a-text c = sym (ap isText (c .before .before .kind-byte .ensures)) ∙ sym (c .before .is-text .ensures) ∙ c .if1 .taken
+
+count-of-requires : tie.Need-count-of-requires
+count-of-requires c κs = omega (arith, room (c .before .before .before .before .before .args .row .now) (c .before .before .before .before .before .args .argument) (c .before .before .before .before .before .pre) .0)
+
+-- the text is inside the row
+inside : (c : tie.After-count-of) → (6 + 9 * c .count-of .result + c .before .value-of .result % 2 ^ 32 + c .before .value-of .result / 2 ^ 32 ≤ length (c .before .before .before .before .before .before .args .row .now)) × (length (c .before .before .before .before .before .before .args .row .now) ≤ 33350)
+inside c =
+    let a = c .before .before .before .before .before .before .args in
+    rw (c .count-of .ensures, c .before .value-of .ensures) (text-room (a .row .now) (a .argument) (c .before .before .before .before .before .before .pre) (is-a-text (c .before .before)))
+
+mul-start : tie.Need-mul-start
+mul-start c = omega (arith, inside c .0, inside c .1)
+
+add-start : tie.Need-add-start
+add-start c = omega (arith, inside c .0, inside c .1)
+
+add-start-2 : tie.Need-add-start-2
+add-start-2 c = omega (arith, inside c .0, inside c .1)
+
+add-result : tie.Need-add-result
+add-result c = omega (arith, inside c .0, inside c .1)
+
+sub-result : tie.Need-sub-result
+sub-result c = search needs
+
+part-result-start : tie.Need-part-result-start
+part-result-start c = search needs
+
+part-result-end : tie.Need-part-result-end
+part-result-end c = omega (arith, inside c .0, inside c .1)
+
+returns : tie.Need-returns
+returns c =
+    let a = c .before .before .before .before .before .before .before .args in
+    let p = c .before .before .before .before .before .before .before .pre in
+    let e = text-part (a .row .now) (a .argument) p (is-a-text (c .before .before .before)) in
+    (simp (c .before .count-of .ensures, c .before .before .value-of .ensures, add-sub-cancel-left) e, simp (add-sub-cancel-left, length-take) (omega (arith, inside (c .before) .0, inside (c .before) .1)))
+
+slice-aggregate-result : tie.Need-slice-aggregate-result
+slice-aggregate-result c = search needs
+
+returns-2 : tie.Need-returns-2
+returns-2 c =
+    let a = c .before .before .before .before .before .args in
+    let t = sym (ap isText (c .before .before .before .kind-byte .ensures)) ∙ sym (c .before .before .is-text .ensures) ∙ c .before .if1 .left in
+    (text-none (a .row .now) (a .argument) (c .before .before .before .before .before .pre) t, omega arith)
+
+pub named-text-spec : {M : Type 1} → statement M
+named-text-spec =
+    tie.close
+    (tie.spec
+    kind-byte-requires
+    is-text-requires
+    value-of-requires
+    count-of-requires
+    mul-start
+    add-start
+    add-start-2
+    add-result
+    sub-result
+    part-result-start
+    part-result-end
+    returns
+    slice-aggregate-result
+    returns-2)

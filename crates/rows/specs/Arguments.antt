@@ -1,0 +1,28 @@
+-- What the functions of this crate require and answer. No contract of an entry speaks of these.
+use Prim.Native.Nat.{ℕ, _≤_}
+use mathlib.Core.Path.{_≡_}
+use mathlib.Core.Bool.{true}
+use mathlib.Core.List.{List}
+use Rattle.writing.specs.Choose.{choose}
+use Rattle.conversions.specs.declared.Kind.{Kind}
+use Rattle.conversions.specs.declared.Kind.the-variants as K
+use Rattle.rows.specs.Row.{countOf, isRow}
+use Rattle.rows.specs.declared.RowRead.{RowRead}
+use Rattle.rows.specs.declared.RowRead.the-variants.{Row, Broken}
+
+-- An integer kind has a width from 1 to 64.
+abbrev pub HasWidth : Kind → Type 0
+HasWidth (K.Signed w) = (1 ≤ w) × (w ≤ 64)
+HasWidth K.Float64 = Unit {0}
+HasWidth K.Boolean = Unit {0}
+HasWidth K.Text = Unit {0}
+
+-- An argument of a row that keeps its layout.
+pub record Argument (row : List ℕ) (a : ℕ) : Type 0 where
+  pub kept : isRow row ≡ true
+  pub first : 1 ≤ a
+  pub last : a ≤ countOf row
+
+-- The answer of reading a row.
+unfoldable pub rowOf : List ℕ → RowRead
+rowOf row = choose (isRow row) (λ _. Row (countOf row)) (λ _. Broken)

@@ -1,2 +1,0 @@
-pub mod Cased
-pub mod Lengths
