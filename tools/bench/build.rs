@@ -1,7 +1,8 @@
-//! Compiles calls.c and links it with the library named by PANEL, by default `target/staticlib/libpanel.a` of the repository.
+//! Compiles calls.c and links it with the library named by PANEL, by default `target/staticlib/libpanel.a` of the repository. Where {fmt} is
+//! installed, calls_fmt.cpp is compiled and linked too, and `has_fmt` is set.
 
 use std::path::{Path, PathBuf};
-use std::process::Command;
+use std::process::{Command, Stdio};
 use std::{env, fs};
 
 fn main() {
@@ -12,7 +13,8 @@ fn main() {
         _ => here.join("../../target/staticlib/libpanel.a"),
     };
     assert!(fs::metadata(&library).is_ok(), "{}: no such library; PANEL names it", library.display());
-    let object = Path::new(&env::var_os("OUT_DIR").expect("set by cargo")).join("calls.o");
+    let folder = PathBuf::from(env::var_os("OUT_DIR").expect("set by cargo"));
+    let object = folder.join("calls.o");
     let compiled = Command::new("gcc")
         .args(["-O2", "-Wall", "-Wextra", "-Werror", "-Wno-format-security", "-c", "calls.c", "-I"])
         .arg(&header)
@@ -20,10 +22,35 @@ fn main() {
         .arg(&object)
         .status();
     assert!(compiled.is_ok_and(|status| status.success()), "gcc failed on calls.c");
-    for file in [&here.join("calls.c"), &header.join("panel.h"), &library] {
+    // A file that is missing makes this run again, so that {fmt} is seen once it is installed.
+    let in_fmt = PathBuf::from("/usr/include/fmt/format.h");
+    for file in [&here.join("calls.c"), &here.join("calls_fmt.cpp"), &header.join("panel.h"), &library, &in_fmt] {
         println!("cargo::rerun-if-changed={}", file.display());
     }
     println!("cargo::rerun-if-env-changed=PANEL");
     println!("cargo::rustc-link-arg={}", object.display());
     println!("cargo::rustc-link-arg={}", library.display());
+    println!("cargo::rustc-check-cfg=cfg(has_fmt)");
+    if has_fmt(&folder) {
+        let object = folder.join("calls_fmt.o");
+        let compiled = Command::new("g++")
+            .args(["-O2", "-Wall", "-Wextra", "-Werror", "-c", "calls_fmt.cpp", "-o"])
+            .arg(&object)
+            .status();
+        assert!(compiled.is_ok_and(|status| status.success()), "g++ failed on calls_fmt.cpp");
+        println!("cargo::rustc-cfg=has_fmt");
+        println!("cargo::rustc-link-arg={}", object.display());
+        println!("cargo::rustc-link-arg=-lfmt");
+        println!("cargo::rustc-link-arg=-lstdc++");
+    }
+}
+
+/// Whether g++ finds the headers and the library of {fmt}: it is given a file that has nothing else.
+fn has_fmt(folder: &Path) -> bool {
+    Command::new("g++")
+        .args(["-shared", "-include", "fmt/format.h", "-x", "c++", "/dev/null", "-x", "none", "-lfmt", "-o"])
+        .arg(folder.join("empty.so"))
+        .stderr(Stdio::null())
+        .status()
+        .is_ok_and(|status| status.success())
 }

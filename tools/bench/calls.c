@@ -27,7 +27,7 @@ uint64_t bench_measure(const uint8_t *fmt, size_t fmt_len, const uint8_t *row, s
 }
 
 /* What a row hands to snprintf; the order is that of `Shape` in rows.rs. */
-enum shape { NOTHING, INTEGER, FLOATING, TEXT, SHEET, FIFTEEN, THIRTY };
+enum shape { NOTHING, INTEGER, FLOATING, TEXT, SHEET, FOUR, FIFTEEN, THIRTY };
 
 /* n: the row's integers; f: its float; s: its text. SHEET takes n[0] to n[2], "true" and s. */
 uint64_t bench_snprintf(int shape, const char *fmt, const int *n, double f, const char *s, char *out, size_t out_len, uint64_t calls)
@@ -50,6 +50,9 @@ uint64_t bench_snprintf(int shape, const char *fmt, const int *n, double f, cons
             break;
         case SHEET:
             length = snprintf(out, out_len, fmt, n[0], n[1], n[2], "true", s);
+            break;
+        case FOUR:
+            length = snprintf(out, out_len, fmt, n[0], n[1], n[2], n[3]);
             break;
         case FIFTEEN:
             length = snprintf(out, out_len, fmt, n[0], n[1], n[2], n[3], n[4], n[5], n[6], n[7], n[8], n[9], n[10], n[11], n[12],

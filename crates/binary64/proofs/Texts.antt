@@ -4,17 +4,16 @@ use mathlib.Core.Bool.{Bool, false}
 use mathlib.Core.List.{List, [], _∷_, _++_, append-assoc}
 use Prim.Native.Nat.{ℕ, _+_, _-_, _^_, _≤_, _<_}
 use native.Mathlib.Decide.{decLt}
-use native.Mathlib.Nat.{zero-add}
 use native.Mathlib.Omega.{arith}
 use lib.Dec.{lit≤}
 use lib.ListN.{length, replicate, length-append, length-replicate}
-use lib.Seq.{sets, sets-eq}
+use lib.Seq.{sets}
 use borrow.Author.Tests.{lt-ltb, le-ltb}
 use borrow.Rule.Slice.PartMut.{putMid, midOf}
-use Rattle.writing.specs.Laid.{laid}
+use Rattle.writing.specs.Laid.{laid, Wrote}
 use Rattle.writing.proofs.Laid.{laid-stores, laid-next}
 use Rattle.numerals.specs.Digits.{digitsIn, places, digits, lettersOf, numeral, decimal}
-use Rattle.numerals.proofs.Digits.{length-letters, length-digitsIn, length-numeral, places-le}
+use Rattle.numerals.proofs.Digits.{length-lettersIn, length-numeral, places-le}
 use Rattle.binary64.specs.declared.HexFloat.{HexFloat}
 use Rattle.binary64.specs.HexFloat.{leadingDigit, exponentLetter, exponentText, hexFloatText}
 
@@ -28,14 +27,17 @@ module _ (u : Bool) (e bias : ℕ) (sign : List ℕ) (m : ℕ) (is : exponentTex
   signed-length = ap length is ∙ simp (length-append, length-numeral) (omega arith)
 
   -- letter and sign stored, then the n digits of m written behind them, of which Y is left
-  pub exponent-laid : (d Y : List ℕ) (letter n : ℕ) → letter ≡ exponentLetter u → n ≡ places 10 m → length (exponentText u e bias) ≤ length d
-      → Y ≡ laid (midOf (length (letter ∷ sign)) (length (sets d 0 (letter ∷ sign)) - length (letter ∷ sign)) (sets d 0 (letter ∷ sign))) (lettersOf false (digitsIn 10 n m))
-      → putMid (length (letter ∷ sign)) (length (sets d 0 (letter ∷ sign)) - length (letter ∷ sign)) (sets d 0 (letter ∷ sign)) Y ≡ laid d (exponentText u e bias)
-  unfolding numeral digits
-  exponent-laid d Y letter n p q h y =
-      let t : List ℕ = letter ∷ sign in
-      laid-next d t (lettersOf false (digitsIn 10 n m)) (sets d 0 t) Y (length t) (laid-stores d t (omega (arith, signed-length))) refl y
-      ∙ ap (laid d) (simp (p, q, is))
+  module _ (d : List ℕ) (letter : ℕ) (p : letter ≡ exponentLetter u) (room : length (exponentText u e bias) ≤ length d) where
+    pub exponent-wrote : (Y : List ℕ) (n r : ℕ) → n ≡ places 10 m
+        → (let k = length (letter ∷ sign) in let D = sets d 0 (letter ∷ sign) in Wrote (midOf k (length D - k) D) (lettersOf false (digitsIn 10 n m)) r Y
+        → Wrote d (exponentText u e bias) (k + r) (putMid k (length D - k) D Y))
+    unfolding numeral digits
+    exponent-wrote Y n r q y =
+        let t : List ℕ = letter ∷ sign in
+        let ds = lettersOf false (digitsIn 10 n m) in (
+          omega (arith, y .0, length-lettersIn false 10 n m, signed-length),
+          laid-next d t ds (sets d 0 t) Y (length t) (laid-stores d t (omega (arith, signed-length))) refl (y .1) ∙ ap (laid d) (simp (p, q, is)),
+        )
 
 module _ (u : Bool) (e bias : ℕ) where
   pub below-text : e < bias → exponentText u e bias ≡ exponentLetter u ∷ ((45 ∷ []) ++ decimal (bias - e))
@@ -62,10 +64,11 @@ module _ (u : Bool) (e bias : ℕ) where
 pub hex-length : (u : Bool) (h : HexFloat)
     → length (hexFloatText u h) ≡ 2 + (h .digits + (h .zeros + length (exponentText u (h .exponent) (h .bias))))
 unfolding hexFloatText
-hex-length u h = simp (length-append, length-letters, length-digitsIn, length-replicate) (omega arith)
+hex-length u h = simp (length-append, length-lettersIn, length-replicate) (omega arith)
 
 pub hex-written : (u : Bool) (h : HexFloat) (letter : ℕ) → letter ≡ 48 + leadingDigit (h .leading)
-    → (((letter ∷ 46 ∷ []) ++ lettersOf u (digitsIn 16 (h .digits) (h .fraction))) ++ replicate (h .zeros) 48) ++ exponentText u (h .exponent) (h .bias) ≡ hexFloatText u h
+    → (((letter ∷ 46 ∷ []) ++ lettersOf u (digitsIn 16 (h .digits) (h .fraction))) ++ replicate (h .zeros) 48) ++ exponentText u (h .exponent) (h .bias)
+    ≡ hexFloatText u h
 unfolding hexFloatText
 hex-written u h letter p =
     rw p

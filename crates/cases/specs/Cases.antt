@@ -1,11 +1,12 @@
 -- 01, "Cases": "These rows are a table of the definitions, under a lone theorem".
-use Prim.Native.Nat.{ℕ, zero, suc, _+_, _-_, _/_, _%_, _^_}
-use Prim.Native.Char.{Char, code}
+use Prim.Native.Nat.{ℕ, zero, suc, _-_, _/_, _%_, _^_}
+use Prim.Native.Char.{code}
 use Prim.Native.String.{String, [] as empty, _∷_ as _then_}
 use mathlib.Core.Bool.{Bool, true, false, _&&_}
 use mathlib.Core.List.{List, [], _∷_, _++_}
 use lib.Dec.{eqb}
 use lib.ListN.{length}
+use Rattle.reading.specs.Examples.{same}
 use Rattle.strings.specs.Scalars.{utf8Of}
 use Rattle.printing.specs.Printing.{printedText, measured}
 use Rattle.printing.specs.declared.Outcome.{Outcome}
@@ -58,20 +59,16 @@ cases =
     ∷ record { format = "%.2d"; kind = 131; value = 0; area = ""; text = "nu" }
     ∷ []
 
-abbrev same : List ℕ → List ℕ → Bool
-same [] [] = true
-same [] (y ∷ ys) = false
-same (x ∷ xs) [] = false
-same (x ∷ xs) (y ∷ ys) = eqb x y && same xs ys
-
 -- That a format of one piece prints, and what.
 abbrev pub prints : Outcome → List ℕ → List ℕ → Bool
 prints (Accepted n k) printed text = eqb k 1 && eqb n (length text) && same printed text
 prints (Refused number place) printed text = false
 
+abbrev pub caseRow : Case → List ℕ
+caseRow c = rowWith (c .kind) (c .value) (utf8 (c .area))
+
 abbrev pub holds : Case → Bool
-holds c =
-    prints (measured (utf8 (c .format)) (rowWith (c .kind) (c .value) (utf8 (c .area)))) (printedText (utf8 (c .format)) (rowWith (c .kind) (c .value) (utf8 (c .area)))) (utf8 (c .text))
+holds c = prints (measured (utf8 (c .format)) (caseRow c)) (printedText (utf8 (c .format)) (caseRow c)) (utf8 (c .text))
 
 abbrev pub allHold : List Case → Bool
 allHold [] = true

@@ -3,48 +3,95 @@ use Prim.Native.Nat.{ℕ, _%_, _^_, _<_}
 use mathlib.Core.Path.{_≡_, refl}
 use mathlib.Core.Bool.{Bool, true, false}
 use mathlib.Core.List.{List}
-use Rattle.numerals.proofs.Integers.{low-bits}
-use Rattle.conversions.specs.Kinds.{kindOf}
+use mathlib.Core.Option.{none}
+use native.Mathlib.Omega.{arith}
+use Rattle.numerals.specs.Integers.{intOf, bitsOf}
+use Rattle.binary64.specs.Fields.{categoryOf}
+use Rattle.conversions.specs.Letters.{familyOf}
+use Rattle.conversions.specs.Kinds.{kindOf, formByte, printsAs}
+use Rattle.conversions.specs.declared.Family.{Family}
 use Rattle.conversions.specs.declared.Kind.{Kind}
 use Rattle.conversions.specs.declared.Kind.the-variants as K
 use Rattle.conversions.specs.declared.KindByte.{KindByte}
 use Rattle.conversions.specs.declared.KindByte.the-variants.{Known, Unknown}
+use Rattle.conversions.specs.declared.IntegerForm.{IntegerForm}
+use Rattle.conversions.specs.declared.IntegerForm.the-variants.{Numeral, Scalar, Digits}
+use Rattle.conversions.specs.declared.Form.{Form}
+use Rattle.conversions.specs.declared.Form.the-variants as F
 use Rattle.specifiers.specs.declared.Element.{Element}
-use Rattle.rows.specs.Row.{isNull, HasWidth, entryOf}
-use Rattle.bodies.specs.Bodies.{planText}
-use Rattle.bodies.specs.declared.Plan.{Plan}
-use Rattle.plans.specs.Plans.{styleOf}
-use Rattle.plans.specs.declared.Planned.the-variants.{Laid}
-use Rattle.elements.specs.ElementPlans.{valuePlan, kindPlan, elementPlan}
-use Rattle.columns.specs.Columns.{letterOf, ValueRead, ReadsBack}
-use Rattle.columns.proofs.Letters.{has-byte}
+use Rattle.rows.specs.Row.{isNull, entryOf, entryAt, textOf, kindByteOf, valueOf}
+use Rattle.rows.specs.Arguments.{HasWidth, Argument}
 use Rattle.rows.proofs.Widths.{has-width}
-use Rattle.columns.proofs.Frames.{PlanRead, not-read}
-use Rattle.columns.proofs.Integers.{in-width, integer-read}
+use Rattle.rows.proofs.Rows.{AllBytes, value-below, entry}
+use Rattle.elements.specs.Texts.{Shown, Text, Stops, integerText, valueText, elementText, textOf as shownText, stopOf}
+use Rattle.columns.specs.Columns.{IntegerRead, ValueRead, ReadsBack}
+use Rattle.columns.proofs.Integers.{own-bits, numeral-read}
 use Rattle.columns.proofs.Floats.{float-read}
+use Rattle.columns.proofs.Forms.{OfKind, OfForm, form-of}
 
-module _ (e : Element) (text part : List ℕ) (v : ℕ) (b : v < 2 ^ 64) where
-  -- by the kind and whether the value is null
-  value-read : (k : Kind) (null : Bool) → HasWidth k → entryOf (Known k) null text v ≡ true
-      → PlanRead (letterOf (e .conversion)) part (ValueRead e (Known k) null v) (valuePlan e k null part v)
-  value-read (K.Signed w) false s h =
-      integer-read (letterOf (e .conversion)) part e (styleOf (e .conversion)) w v (has-byte (e .conversion)) (low-bits w v (s .0) (s .1) b (in-width w v text (s .1) b h))
-  value-read (K.Signed w) true s h = not-read (letterOf (e .conversion)) part (valuePlan e (K.Signed w) true part v)
-  value-read K.Float64 null s h = float-read (letterOf (e .conversion)) part e (styleOf (e .conversion)) v (has-byte (e .conversion))
-  value-read K.Boolean null s h = not-read (letterOf (e .conversion)) part (valuePlan e K.Boolean null part v)
-  value-read K.Text null s h = not-read (letterOf (e .conversion)) part (valuePlan e K.Text null part v)
+-- That what is shown reads as R says; where the call is stopped, nothing is read.
+abbrev pub ShownRead : (List ℕ → Type 0) → Shown → Type 0
+ShownRead R (Text t) = R t
+ShownRead R (Stops n) = Unit {0}
 
-  kind-read : (n : ℕ) (k : KindByte) (null : Bool) → kindOf n ≡ k → entryOf k null text v ≡ true
-      → PlanRead (letterOf (e .conversion)) part (ValueRead e k null v) (kindPlan e k null part v)
-  kind-read n (Known k) null q h = value-read k null (has-width n k q) h
-  kind-read n Unknown null q h = tt
+-- of a text that nothing is said of
+not-read : (x : Shown) → ShownRead (λ _. Unit {0}) x
+not-read (Text t) = tt
+not-read (Stops n) = tt
 
-  element-read : (k : ℕ) → entryOf (kindOf (k % 128)) (isNull k) text v ≡ true
-      → PlanRead (letterOf (e .conversion)) part (ValueRead e (kindOf (k % 128)) (isNull k) v) (elementPlan e k part v)
-  unfolding elementPlan
-  element-read k h = kind-read (k % 128) (kindOf (k % 128)) (isNull k) refl h
+-- That the low w bits of the pattern v are those of its integer, where it is not null.
+abbrev OwnBits : ℕ → Bool → ℕ → Type 0
+OwnBits v true w = Unit {0}
+OwnBits v false w = v % 2 ^ w ≡ bitsOf w (intOf 64 v)
 
-pub reads-back : (e : Element) (k : ℕ) (text part : List ℕ) (v : ℕ) (p : Plan) → entryOf (kindOf (k % 128)) (isNull k) text v ≡ true → v < 2 ^ 64
-    → elementPlan e k part v ≡ Laid p → ReadsBack e k v (planText part p)
-unfolding ReadsBack
-reads-back e k text part v p h b q = rw q at (element-read e text part v b k h)
+-- of a row's value, by its kind
+module _ (v : ℕ) (b : v < 2 ^ 64) (text : List ℕ) where
+  of-kind : (k : Kind) (null : Bool) → HasWidth k → entryOf (Known k) null text v ≡ true → OfKind (OwnBits v null) k
+  of-kind (K.Signed w) false s h = own-bits w v text (s .0) (s .1) b h
+  of-kind (K.Signed w) true s h = tt
+  of-kind K.Float64 null s h = tt
+  of-kind K.Boolean null s h = tt
+  of-kind K.Text null s h = tt
+
+  of-byte : (c : Family) (n : ℕ) (k : KindByte) (null : Bool) → kindOf n ≡ k → entryOf k null text v ≡ true → OfForm (OwnBits v null) (formByte c k)
+  of-byte c n (Known k) null q h = form-of (OwnBits v null) c k (of-kind k null (has-width n k q) h)
+  of-byte c n Unknown null q h = tt
+
+-- by its form
+module _ (e : Element) (part : List ℕ) (v : ℕ) where
+  integer-read : (f : IntegerForm) (w : ℕ) → OwnBits v false w → ShownRead (IntegerRead e f w v) (integerText e f w v)
+  integer-read (Numeral r) w h = numeral-read e r w v h
+  integer-read Scalar w h = not-read (integerText e Scalar w v)
+  integer-read Digits w h = tt
+
+  value-read : (f : Form) (null : Bool) → OfForm (OwnBits v null) f → ShownRead (ValueRead e f null v) (valueText e f null part v)
+  value-read (F.Integer f w) false h = integer-read f w h
+  value-read (F.Integer f w) true h = tt
+  value-read F.HexFloat null h = float-read e (categoryOf v) v
+  value-read F.Boolean null h = tt
+  value-read F.Text null h = tt
+  value-read F.NotPrinted null h = tt
+
+-- Of every element, for an entry of a row: its kind byte k, its value v, and the row's text.
+pub element-read : (e : Element) (k : ℕ) (text part : List ℕ) (v : ℕ) → v < 2 ^ 64 → entryOf (kindOf (k % 128)) (isNull k) text v ≡ true
+    → ShownRead (ReadsBack e k v) (elementText e k part v)
+unfolding elementText printsAs ReadsBack
+element-read e k text part v b h =
+    value-read e part v (printsAs (e .conversion) k) (isNull k)
+    (of-byte v b text (familyOf (e .conversion)) (k % 128) (kindOf (k % 128)) (isNull k) refl h)
+
+unstopped : (R : List ℕ → Type 0) (x : Shown) → ShownRead R x → stopOf x ≡ none → R (shownText x)
+unstopped R (Text t) h e = h
+unstopped R (Stops n) h e = absurd (let z : _≡_ {A = ℕ} 0 1 = cc in omega arith)
+
+-- Of every element that takes an argument of a row that keeps its layout, where nothing stops it.
+pub reads-back : (row : List ℕ) → AllBytes row → (e : Element) → Argument row (e .argument) → (part : List ℕ)
+    → stopOf (elementText e (kindByteOf row (e .argument)) part (valueOf row (e .argument))) ≡ none
+    → ReadsBack e (kindByteOf row (e .argument)) (valueOf row (e .argument))
+    (shownText (elementText e (kindByteOf row (e .argument)) part (valueOf row (e .argument))))
+unfolding entryAt
+reads-back row bytes e a part =
+    let k = kindByteOf row (e .argument) in
+    let v = valueOf row (e .argument) in
+    unstopped (ReadsBack e k v) (elementText e k part v)
+    (element-read e k (textOf row) part v (value-below row (e .argument) bytes) (entry row (a .kept) (e .argument) (a .first) (a .last)))

@@ -1,7 +1,8 @@
 -- The kinds of value, which letters fit them, and which letters print them: two tables over the families of letters and the kinds.
 use Prim.Native.Nat.{ℕ, _%_}
 use mathlib.Core.Bool.{Bool, true, false, _||_}
-use Rattle.conversions.specs.Letters.{numbered, familyOf}
+use mathlib.Core.List.{List, [], _∷_}
+use Rattle.conversions.specs.Letters.{lookup, familyOf}
 use Rattle.conversions.specs.declared.ConversionType.{ConversionType}
 use Rattle.conversions.specs.declared.Family.{Family}
 use Rattle.conversions.specs.declared.Family.the-variants as F
@@ -9,23 +10,18 @@ use Rattle.conversions.specs.declared.Kind.{Kind}
 use Rattle.conversions.specs.declared.Kind.the-variants as K
 use Rattle.conversions.specs.declared.KindByte.{KindByte}
 use Rattle.conversions.specs.declared.KindByte.the-variants.{Known, Unknown}
-use Rattle.conversions.specs.declared.Radix.the-variants.{Decimal, Octal, Hexadecimal}
 use Rattle.conversions.specs.declared.IntegerForm.{IntegerForm}
-use Rattle.conversions.specs.declared.IntegerForm.the-variants.{Numeral, Scalar, Digits}
+use Rattle.conversions.specs.declared.IntegerForm.the-variants.{Digits}
 use Rattle.conversions.specs.declared.Form.{Form}
 use Rattle.conversions.specs.declared.Form.the-variants.{Integer, HexFloat, Boolean, Text, NotPrinted}
 
 -- 01: "Kinds: 1 to 4 signed integers of 8, 16, 32 and 64 bits ..; 5 Float64 ..; 6 Boolean ..; 7 text"
+abbrev pub kinds : List (ℕ × Kind)
+kinds =
+    (1, K.Signed 8) ∷ (2, K.Signed 16) ∷ (3, K.Signed 32) ∷ (4, K.Signed 64) ∷ (5, K.Float64) ∷ (6, K.Boolean) ∷ (7, K.Text) ∷ []
+
 unfoldable pub kindOf : ℕ → KindByte
-kindOf b =
-    numbered 1 (Known (K.Signed 8)) b
-    (λ _. numbered 2 (Known (K.Signed 16)) b
-    (λ _. numbered 3 (Known (K.Signed 32)) b
-    (λ _. numbered 4 (Known (K.Signed 64)) b
-    (λ _. numbered 5 (Known K.Float64) b
-    (λ _. numbered 6 (Known K.Boolean) b
-    (λ _. numbered 7 (Known K.Text) b
-    (λ _. Unknown)))))))
+kindOf b = lookup (λ k. k) Known Unknown kinds b
 
 abbrev pub isInteger : Kind → Bool
 isInteger (K.Signed w) = true
@@ -51,10 +47,7 @@ isNumber k = isInteger k || isFloat k
 -- What fits. 01: "b needs 6; c, d, o, x need 1 to 4; e, f, g, a need 1 to 5; t and T fit none of our kinds; s and h take all."
 abbrev pub fits : Family → Kind → Bool
 fits F.Boolean k = isBoolean k
-fits F.Char k = isInteger k
-fits F.Decimal k = isInteger k
-fits F.Octal k = isInteger k
-fits F.Hexadecimal k = isInteger k
+fits (F.Integral f) k = isInteger k
 fits F.HexFloat k = isNumber k
 fits F.DecimalFloat k = isNumber k
 fits F.Time k = false
@@ -80,10 +73,7 @@ onlyIf true f = f
 onlyIf false f = NotPrinted
 
 abbrev pub formOf : Family → Kind → Form
-formOf F.Decimal k = integerForm (Numeral Decimal) k
-formOf F.Octal k = integerForm (Numeral Octal) k
-formOf F.Hexadecimal k = integerForm (Numeral Hexadecimal) k
-formOf F.Char k = integerForm Scalar k
+formOf (F.Integral f) k = integerForm f k
 formOf F.Text k = stringForm k
 formOf F.HexFloat k = onlyIf (isFloat k) HexFloat
 formOf F.Boolean k = onlyIf (isBoolean k) Boolean

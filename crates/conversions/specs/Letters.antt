@@ -9,125 +9,76 @@ use Rattle.conversions.specs.declared.TimeFormat.{TimeFormat}
 use Rattle.conversions.specs.declared.TimeFormat.the-variants as T
 use Rattle.conversions.specs.declared.ConversionType.{ConversionType}
 use Rattle.conversions.specs.declared.ConversionType.the-variants as C
+use Rattle.conversions.specs.declared.Class.{Class}
 use Rattle.conversions.specs.declared.Family.{Family}
 use Rattle.conversions.specs.declared.Family.the-variants as F
+use Rattle.conversions.specs.declared.Radix.the-variants.{Decimal, Octal, Hexadecimal}
+use Rattle.conversions.specs.declared.IntegerForm.the-variants.{Numeral, Scalar}
 use Rattle.conversions.specs.declared.TimeLetter.{TimeLetter}
 use Rattle.conversions.specs.declared.TimeLetter.the-variants.{Component, NoComponent}
 use Rattle.conversions.specs.declared.Letter.{Letter}
 use Rattle.conversions.specs.declared.Letter.the-variants.{Conversion, NoConversion}
 
--- One row of a list: the number k stands for x; any other number is left to the rows below.
-abbrev pub numbered : {A : Type 0} → ℕ → A → ℕ → (Unit {0} → A) → A
-numbered k x b others = choose (eqb b k) (λ _. x) others
-
--- The same of a letter, by its code.
-abbrev pub named : {A : Type 0} → Char → A → ℕ → (Unit {0} → A) → A
-named k x b others = numbered (code k) x b others
+-- A table of names by number or letter: what stands in the row whose key is b, or `others` where no row has it.
+abbrev pub lookup : {K A B : Type 0} → (K → ℕ) → (A → B) → B → List (K × A) → ℕ → B
+lookup key found others [] b = others
+lookup key found others (r ∷ rows) b = choose (eqb b (key (r .0))) (λ _. found (r .1)) (λ _. lookup key found others rows b)
 
 -- Java, "Date/Time Conversions": the letters behind t or T.
+abbrev pub timeLetters : List (Char × TimeFormat)
+timeLetters =
+    ("H", T.HUpper) ∷ ("I", T.IUpper) ∷ ("k", T.KLower) ∷ ("l", T.LLower) ∷ ("M", T.MUpper) ∷ ("S", T.SUpper) ∷ ("L", T.LUpper) ∷ ("N", T.NUpper) ∷
+    ("p", T.PLower) ∷ ("z", T.ZLower) ∷ ("Z", T.ZUpper) ∷ ("s", T.SLower) ∷ ("Q", T.QUpper) ∷ ("B", T.BUpper) ∷ ("b", T.BLower) ∷ ("h", T.BLower) ∷
+    ("A", T.AUpper) ∷ ("a", T.ALower) ∷ ("C", T.CUpper) ∷ ("Y", T.YUpper) ∷ ("y", T.YLower) ∷ ("j", T.JLower) ∷ ("m", T.MLower) ∷ ("d", T.DLower) ∷
+    ("e", T.ELower) ∷ ("R", T.RUpper) ∷ ("T", T.TUpper) ∷ ("r", T.RLower) ∷ ("D", T.DUpper) ∷ ("F", T.FUpper) ∷ ("c", T.CLower) ∷ []
+
 unfoldable pub timeOf : ℕ → TimeLetter
-timeOf b =
-    named "H" (Component T.HUpper) b
-    (λ _. named "I" (Component T.IUpper) b
-    (λ _. named "k" (Component T.KLower) b
-    (λ _. named "l" (Component T.LLower) b
-    (λ _. named "M" (Component T.MUpper) b
-    (λ _. named "S" (Component T.SUpper) b
-    (λ _. named "L" (Component T.LUpper) b
-    (λ _. named "N" (Component T.NUpper) b
-    (λ _. named "p" (Component T.PLower) b
-    (λ _. named "z" (Component T.ZLower) b
-    (λ _. named "Z" (Component T.ZUpper) b
-    (λ _. named "s" (Component T.SLower) b
-    (λ _. named "Q" (Component T.QUpper) b
-    (λ _. named "B" (Component T.BUpper) b
-    (λ _. named "b" (Component T.BLower) b
-    (λ _. named "h" (Component T.BLower) b
-    (λ _. named "A" (Component T.AUpper) b
-    (λ _. named "a" (Component T.ALower) b
-    (λ _. named "C" (Component T.CUpper) b
-    (λ _. named "Y" (Component T.YUpper) b
-    (λ _. named "y" (Component T.YLower) b
-    (λ _. named "j" (Component T.JLower) b
-    (λ _. named "m" (Component T.MLower) b
-    (λ _. named "d" (Component T.DLower) b
-    (λ _. named "e" (Component T.ELower) b
-    (λ _. named "R" (Component T.RUpper) b
-    (λ _. named "T" (Component T.TUpper) b
-    (λ _. named "r" (Component T.RLower) b
-    (λ _. named "D" (Component T.DUpper) b
-    (λ _. named "F" (Component T.FUpper) b
-    (λ _. named "c" (Component T.CLower) b
-    (λ _. NoComponent)))))))))))))))))))))))))))))))
+timeOf b = lookup code Component NoComponent timeLetters b
 
 -- Java, "Conversions": the letters but for t and T.
+abbrev pub letters : List (Char × ConversionType)
+letters =
+    ("b", C.BooleanLower) ∷ ("B", C.BooleanUpper) ∷ ("h", C.HexHashLower) ∷ ("H", C.HexHashUpper) ∷ ("s", C.StringLower) ∷ ("S", C.StringUpper) ∷
+    ("c", C.CharLower) ∷ ("C", C.CharUpper) ∷ ("d", C.DecInt) ∷ ("o", C.OctInt) ∷ ("x", C.HexIntLower) ∷ ("X", C.HexIntUpper) ∷
+    ("e", C.SciFloatLower) ∷ ("E", C.SciFloatUpper) ∷ ("f", C.DecFloatLower) ∷ ("g", C.CompactFloatLower) ∷ ("G", C.CompactFloatUpper) ∷
+    ("a", C.HexFloatLower) ∷ ("A", C.HexFloatUpper) ∷ []
+
 unfoldable pub conversionOf : ℕ → Letter
-conversionOf b =
-    named "b" (Conversion C.BooleanLower) b
-    (λ _. named "B" (Conversion C.BooleanUpper) b
-    (λ _. named "h" (Conversion C.HexHashLower) b
-    (λ _. named "H" (Conversion C.HexHashUpper) b
-    (λ _. named "s" (Conversion C.StringLower) b
-    (λ _. named "S" (Conversion C.StringUpper) b
-    (λ _. named "c" (Conversion C.CharLower) b
-    (λ _. named "C" (Conversion C.CharUpper) b
-    (λ _. named "d" (Conversion C.DecInt) b
-    (λ _. named "o" (Conversion C.OctInt) b
-    (λ _. named "x" (Conversion C.HexIntLower) b
-    (λ _. named "X" (Conversion C.HexIntUpper) b
-    (λ _. named "e" (Conversion C.SciFloatLower) b
-    (λ _. named "E" (Conversion C.SciFloatUpper) b
-    (λ _. named "f" (Conversion C.DecFloatLower) b
-    (λ _. named "g" (Conversion C.CompactFloatLower) b
-    (λ _. named "G" (Conversion C.CompactFloatUpper) b
-    (λ _. named "a" (Conversion C.HexFloatLower) b
-    (λ _. named "A" (Conversion C.HexFloatUpper) b
-    (λ _. NoConversion)))))))))))))))))))
+conversionOf b = lookup code Conversion NoConversion letters b
 
--- Java, "Conversions": a capital letter prints as its small letter does, in capitals.
-abbrev pub isUpper : ConversionType → Bool
-isUpper C.BooleanLower = false
-isUpper C.BooleanUpper = true
-isUpper C.HexHashLower = false
-isUpper C.HexHashUpper = true
-isUpper C.StringLower = false
-isUpper C.StringUpper = true
-isUpper C.CharLower = false
-isUpper C.CharUpper = true
-isUpper C.DecInt = false
-isUpper C.OctInt = false
-isUpper C.HexIntLower = false
-isUpper C.HexIntUpper = true
-isUpper C.SciFloatLower = false
-isUpper C.SciFloatUpper = true
-isUpper C.DecFloatLower = false
-isUpper C.CompactFloatLower = false
-isUpper C.CompactFloatUpper = true
-isUpper C.HexFloatLower = false
-isUpper C.HexFloatUpper = true
-isUpper (C.TimeLower t) = false
-isUpper (C.TimeUpper t) = true
+-- The letters that are judged and printed alike (01, "Fit", "Capitals likewise"), and whether in capitals (Java, "Conversions": a capital letter prints as
+-- its small letter does, in capitals).
+abbrev pub inSmall : Family → Class
+inSmall f = record { family = f; upper = false }
 
--- The letters that are judged and printed alike: 01, "Fit", "Capitals likewise".
+abbrev pub inCapitals : Family → Class
+inCapitals f = record { family = f; upper = true }
+
+abbrev pub classOf : ConversionType → Class
+classOf C.BooleanLower = inSmall F.Boolean
+classOf C.BooleanUpper = inCapitals F.Boolean
+classOf C.HexHashLower = inSmall F.Hash
+classOf C.HexHashUpper = inCapitals F.Hash
+classOf C.StringLower = inSmall F.Text
+classOf C.StringUpper = inCapitals F.Text
+classOf C.CharLower = inSmall (F.Integral Scalar)
+classOf C.CharUpper = inCapitals (F.Integral Scalar)
+classOf C.DecInt = inSmall (F.Integral (Numeral Decimal))
+classOf C.OctInt = inSmall (F.Integral (Numeral Octal))
+classOf C.HexIntLower = inSmall (F.Integral (Numeral Hexadecimal))
+classOf C.HexIntUpper = inCapitals (F.Integral (Numeral Hexadecimal))
+classOf C.SciFloatLower = inSmall F.DecimalFloat
+classOf C.SciFloatUpper = inCapitals F.DecimalFloat
+classOf C.DecFloatLower = inSmall F.DecimalFloat
+classOf C.CompactFloatLower = inSmall F.DecimalFloat
+classOf C.CompactFloatUpper = inCapitals F.DecimalFloat
+classOf C.HexFloatLower = inSmall F.HexFloat
+classOf C.HexFloatUpper = inCapitals F.HexFloat
+classOf (C.TimeLower t) = inSmall F.Time
+classOf (C.TimeUpper t) = inCapitals F.Time
+
 abbrev pub familyOf : ConversionType → Family
-familyOf C.BooleanLower = F.Boolean
-familyOf C.BooleanUpper = F.Boolean
-familyOf C.HexHashLower = F.Hash
-familyOf C.HexHashUpper = F.Hash
-familyOf C.StringLower = F.Text
-familyOf C.StringUpper = F.Text
-familyOf C.CharLower = F.Char
-familyOf C.CharUpper = F.Char
-familyOf C.DecInt = F.Decimal
-familyOf C.OctInt = F.Octal
-familyOf C.HexIntLower = F.Hexadecimal
-familyOf C.HexIntUpper = F.Hexadecimal
-familyOf C.SciFloatLower = F.DecimalFloat
-familyOf C.SciFloatUpper = F.DecimalFloat
-familyOf C.DecFloatLower = F.DecimalFloat
-familyOf C.CompactFloatLower = F.DecimalFloat
-familyOf C.CompactFloatUpper = F.DecimalFloat
-familyOf C.HexFloatLower = F.HexFloat
-familyOf C.HexFloatUpper = F.HexFloat
-familyOf (C.TimeLower t) = F.Time
-familyOf (C.TimeUpper t) = F.Time
+familyOf c = classOf c .family
+
+abbrev pub isUpper : ConversionType → Bool
+isUpper c = classOf c .upper

@@ -3,7 +3,7 @@
 // try_from, ConversionType::validate, is_upper and the letters of take_conversion_specifier.
 ghost use mathlib.Core.Path.{_≡_};
 ghost use Prim.Native.Nat.{_<_, _≤_};
-ghost use Rattle.conversions.specs.Letters.{timeOf, conversionOf, isUpper, familyOf};
+ghost use Rattle.conversions.specs.Letters.{timeOf, conversionOf, inSmall, inCapitals, classOf, isUpper, familyOf};
 ghost use Rattle.conversions.specs.Kinds.{kindOf, isInteger, isFloat, isNumber, isBoolean, fits, fitsKind, integerForm, stringForm, onlyIf, formOf, printsAs};
 
 // The component of a date that a letter behind t or T names.
@@ -70,13 +70,16 @@ pub enum Family {
     Boolean,
     Hash,
     Text,
-    Char,
-    Decimal,
-    Octal,
-    Hexadecimal,
+    Integral(IntegerForm),
     HexFloat,
     DecimalFloat,
     Time,
+}
+
+// The family of a letter, and whether it prints capitals.
+pub struct Class {
+    pub family: Family,
+    pub upper: bool,
 }
 
 // A kind of value: a signed integer with its width in bits, a binary64 float, a Boolean, a text.
@@ -193,62 +196,70 @@ pub fn conversion_of(b: u8) -> Letter
     }
 }
 
+fn in_small(family: Family) -> Class
+    ensures { λ r. ⌜ r ≡ inSmall family ⌝ }
+{
+    Class {
+        family: family,
+        upper: false,
+    }
+}
+
+fn in_capitals(family: Family) -> Class
+    ensures { λ r. ⌜ r ≡ inCapitals family ⌝ }
+{
+    Class {
+        family: family,
+        upper: true,
+    }
+}
+
+// The class of a conversion.
+fn class_of(conversion: ConversionType) -> Class
+    ensures { λ r. ⌜ r ≡ classOf conversion ⌝ }
+{
+    match conversion {
+        ConversionType::BooleanLower => in_small(Family::Boolean),
+        ConversionType::BooleanUpper => in_capitals(Family::Boolean),
+        ConversionType::HexHashLower => in_small(Family::Hash),
+        ConversionType::HexHashUpper => in_capitals(Family::Hash),
+        ConversionType::StringLower => in_small(Family::Text),
+        ConversionType::StringUpper => in_capitals(Family::Text),
+        ConversionType::CharLower => in_small(Family::Integral(IntegerForm::Scalar)),
+        ConversionType::CharUpper => in_capitals(Family::Integral(IntegerForm::Scalar)),
+        ConversionType::DecInt => in_small(Family::Integral(IntegerForm::Numeral(Radix::Decimal))),
+        ConversionType::OctInt => in_small(Family::Integral(IntegerForm::Numeral(Radix::Octal))),
+        ConversionType::HexIntLower => in_small(Family::Integral(IntegerForm::Numeral(
+            Radix::Hexadecimal,
+        ))),
+        ConversionType::HexIntUpper => in_capitals(Family::Integral(IntegerForm::Numeral(
+            Radix::Hexadecimal,
+        ))),
+        ConversionType::SciFloatLower => in_small(Family::DecimalFloat),
+        ConversionType::SciFloatUpper => in_capitals(Family::DecimalFloat),
+        ConversionType::DecFloatLower => in_small(Family::DecimalFloat),
+        ConversionType::CompactFloatLower => in_small(Family::DecimalFloat),
+        ConversionType::CompactFloatUpper => in_capitals(Family::DecimalFloat),
+        ConversionType::HexFloatLower => in_small(Family::HexFloat),
+        ConversionType::HexFloatUpper => in_capitals(Family::HexFloat),
+        ConversionType::TimeLower(_) => in_small(Family::Time),
+        ConversionType::TimeUpper(_) => in_capitals(Family::Time),
+    }
+}
+
 // Whether a conversion prints capitals.
 pub fn is_upper(conversion: ConversionType) -> bool
     ensures { λ r. ⌜ r ≡ isUpper conversion ⌝ }
 {
-    match conversion {
-        ConversionType::BooleanLower => false,
-        ConversionType::BooleanUpper => true,
-        ConversionType::HexHashLower => false,
-        ConversionType::HexHashUpper => true,
-        ConversionType::StringLower => false,
-        ConversionType::StringUpper => true,
-        ConversionType::CharLower => false,
-        ConversionType::CharUpper => true,
-        ConversionType::DecInt => false,
-        ConversionType::OctInt => false,
-        ConversionType::HexIntLower => false,
-        ConversionType::HexIntUpper => true,
-        ConversionType::SciFloatLower => false,
-        ConversionType::SciFloatUpper => true,
-        ConversionType::DecFloatLower => false,
-        ConversionType::CompactFloatLower => false,
-        ConversionType::CompactFloatUpper => true,
-        ConversionType::HexFloatLower => false,
-        ConversionType::HexFloatUpper => true,
-        ConversionType::TimeLower(_) => false,
-        ConversionType::TimeUpper(_) => true,
-    }
+    let c = class_of(conversion);
+    c.upper
 }
 
-// The family of a conversion.
 fn family_of(conversion: ConversionType) -> Family
     ensures { λ r. ⌜ r ≡ familyOf conversion ⌝ }
 {
-    match conversion {
-        ConversionType::BooleanLower => Family::Boolean,
-        ConversionType::BooleanUpper => Family::Boolean,
-        ConversionType::HexHashLower => Family::Hash,
-        ConversionType::HexHashUpper => Family::Hash,
-        ConversionType::StringLower => Family::Text,
-        ConversionType::StringUpper => Family::Text,
-        ConversionType::CharLower => Family::Char,
-        ConversionType::CharUpper => Family::Char,
-        ConversionType::DecInt => Family::Decimal,
-        ConversionType::OctInt => Family::Octal,
-        ConversionType::HexIntLower => Family::Hexadecimal,
-        ConversionType::HexIntUpper => Family::Hexadecimal,
-        ConversionType::SciFloatLower => Family::DecimalFloat,
-        ConversionType::SciFloatUpper => Family::DecimalFloat,
-        ConversionType::DecFloatLower => Family::DecimalFloat,
-        ConversionType::CompactFloatLower => Family::DecimalFloat,
-        ConversionType::CompactFloatUpper => Family::DecimalFloat,
-        ConversionType::HexFloatLower => Family::HexFloat,
-        ConversionType::HexFloatUpper => Family::HexFloat,
-        ConversionType::TimeLower(_) => Family::Time,
-        ConversionType::TimeUpper(_) => Family::Time,
-    }
+    let c = class_of(conversion);
+    c.family
 }
 
 // The kind that a byte without its null mark names.
@@ -317,10 +328,7 @@ fn family_fits(family: Family, kind: Kind) -> bool
         Family::Boolean => is_boolean(kind),
         Family::Hash => true,
         Family::Text => true,
-        Family::Char => is_integer(kind),
-        Family::Decimal => is_integer(kind),
-        Family::Octal => is_integer(kind),
-        Family::Hexadecimal => is_integer(kind),
+        Family::Integral(_) => is_integer(kind),
         Family::HexFloat => is_number(kind),
         Family::DecimalFloat => is_number(kind),
         Family::Time => false,
@@ -384,10 +392,7 @@ fn family_form(family: Family, kind: Kind) -> Form
         Family::Boolean => only_if(is_boolean(kind), Form::Boolean),
         Family::Hash => Form::NotPrinted,
         Family::Text => string_form(kind),
-        Family::Char => integer_form(IntegerForm::Scalar, kind),
-        Family::Decimal => integer_form(IntegerForm::Numeral(Radix::Decimal), kind),
-        Family::Octal => integer_form(IntegerForm::Numeral(Radix::Octal), kind),
-        Family::Hexadecimal => integer_form(IntegerForm::Numeral(Radix::Hexadecimal), kind),
+        Family::Integral(form) => integer_form(form, kind),
         Family::HexFloat => only_if(is_float(kind), Form::HexFloat),
         Family::DecimalFloat => Form::NotPrinted,
         Family::Time => Form::NotPrinted,

@@ -5,9 +5,12 @@ use mathlib.Core.Bool.{Bool}
 use mathlib.Core.List.{List, [], _∷_, _++_}
 use Prim.Native.Nat.{ℕ, zero, suc, _+_, _-_, _*_, _/_, _%_, _^_, _≤_, _<_}
 use native.Mathlib.Decide.{decLt}
-use native.Mathlib.Nat.{mul-zero, mul-suc, mul-div-le, lt-mul-div-succ, add-div-right, pow-zero, pow-suc, pow-succ', mod-one, mod-lt, one-le-pow, add-mul, mul-assoc, mul-comm, mul-one, one-mul, add-zero, div-one, div-div-eq-div-mul, div-lt-self, le-div-iff-mul-le, div-lt-iff-lt-mul, mod-eq-of-lt, le-mul-of-pos-right, le-refl, le-of-eq, le-trans, lt-of-lt-of-le}
+use native.Mathlib.Nat.{mul-zero, mul-suc, mul-one, one-mul, mul-comm, mul-assoc, add-mul, add-zero, pow-zero, pow-suc, pow-succ', one-le-pow}
+use native.Mathlib.Nat.{mod-one, mod-lt, mod-eq-of-lt, div-one, div-div-eq-div-mul, div-lt-self, add-div-right, mul-div-le, lt-mul-div-succ}
+use native.Mathlib.Nat.{le-refl, le-of-eq, le-trans, lt-of-lt-of-le, le-mul-of-pos-right, le-div-iff-mul-le, div-lt-iff-lt-mul}
 use native.Mathlib.Numerals.{add-one}
 use native.Mathlib.Omega.{arith}
+use lib.Dec.{lit≤}
 use lib.Arith.{mod-mul, digits-div, digits-mod, digits-lt}
 use lib.Count.{leadingZeros, leading-top}
 use lib.Pow.{pow-add, pow-mono}
@@ -46,6 +49,9 @@ unfolding digitsIn
 length-digitsIn b zero n = refl
 length-digitsIn b (suc k) n =
     length-append (digitsIn b k (n / b)) (n % b ∷ []) ∙ ap (λ (j : ℕ). j + 1) (length-digitsIn b k (n / b)) ∙ add-one k
+
+pub length-lettersIn : (u : Bool) (b k n : ℕ) → length (lettersOf u (digitsIn b k n)) ≡ k
+length-lettersIn u b k n = length-letters u (digitsIn b k n) ∙ length-digitsIn b k n
 
 -- From the last letter to the first: what is left of the number gives the next letter.
 abbrev pub digitByte : Bool → ℕ → ℕ → ℕ
@@ -107,8 +113,9 @@ pub number-digitsIn : (b v k n : ℕ) → 0 < b → numberFrom b v (digitsIn b k
 unfolding digitsIn numberFrom
 number-digitsIn b v zero n h = sym (rw (pow-zero, mul-one, mod-one, add-zero))
 number-digitsIn b v (suc k) n h =
-    let e : n % (b ^ k * b) ≡ (n / b % b ^ k) * b + n % b = mod-mul n (one-le-pow k b h) h in
-    let f : (v * b ^ k + n / b % b ^ k) * b ≡ v * (b ^ k * b) + (n / b % b ^ k) * b = add-mul (v * b ^ k) (n / b % b ^ k) b ∙ ap (λ (z : ℕ). z + (n / b % b ^ k) * b) (mul-assoc v (b ^ k) b) in
+    let r = n / b % b ^ k in
+    let e : n % (b ^ k * b) ≡ r * b + n % b = mod-mul n (one-le-pow k b h) h in
+    let f : (v * b ^ k + r) * b ≡ v * (b ^ k * b) + r * b = add-mul (v * b ^ k) r b ∙ ap (λ (z : ℕ). z + r * b) (mul-assoc v (b ^ k) b) in
     number-append b v (digitsIn b k (n / b)) (n % b ∷ [])
     ∙ ap (λ (z : ℕ). z * b + n % b) (number-digitsIn b v k (n / b) h)
     ∙ rw pow-suc (omega arith)
@@ -226,9 +233,13 @@ places-le b (suc k) n h hi =
       | no s ↦ omega (arith, places-more b n h (omega arith), places-le b k (n / b) h hi')
     ]
 
+-- a number of 64 bits has at most twenty decimal digits
+pub twenty-places : (n : ℕ) → n < 2 ^ 64 → places 10 n ≤ 20
+twenty-places n h = places-le 10 19 n (lit≤ tt) (omega arith)
+
 pub length-numeral : (u : Bool) (b n : ℕ) → length (numeral u b n) ≡ places b n
 unfolding numeral digits
-length-numeral u b n = length-letters u (digitsIn b (places b n) n) ∙ length-digitsIn b (places b n) n
+length-numeral u b n = length-lettersIn u b (places b n) n
 
 pub number-digits : (b n : ℕ) → 2 ≤ b → numberOf b (digits b n) ≡ n
 unfolding digits numberOf

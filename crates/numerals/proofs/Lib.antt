@@ -1,4 +1,5 @@
 pub mod Digits
+pub mod Bases
 pub mod Integers
 pub mod Grouping
 pub mod Params

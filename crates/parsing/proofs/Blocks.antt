@@ -3,6 +3,7 @@ use mathlib.Core.Path.{_≡_, ap, _∙_}
 use mathlib.Core.Bool.{true}
 use mathlib.Core.List.{List, [], _∷_}
 use Prim.Native.Nat.{ℕ, zero, suc, _+_, _≤_, _<_}
+use Prim.Native.Char.{code}
 use native.Mathlib.Decide.{decLt}
 use native.Mathlib.Omega.{arith}
 use lib.Dec.{eqb, ltb}
@@ -18,7 +19,7 @@ unfolding textLength
 text-rest zero l h = omega arith
 text-rest (suc n) [] h = absurd (omega arith)
 text-rest (suc n) (b ∷ l) h =
-    by-test (λ (m : ℕ). suc n ≤ m → m ≡ suc n + textLength (drop n l)) (eqb b 37) _ _ (λ _ k. absurd (omega arith))
+    by-test (λ (m : ℕ). suc n ≤ m → m ≡ suc n + textLength (drop n l)) (eqb b (code "%")) _ _ (λ _ k. absurd (omega arith))
     (λ _ k. more k (text-rest n l)) h
   where
     more : suc n ≤ suc (textLength l) → (n ≤ textLength l → textLength l ≡ n + textLength (drop n l))
@@ -31,12 +32,12 @@ text-past s i n h = text-rest n (drop i s) h ∙ ap (λ (l : List ℕ). n + text
 
 -- the byte i of a block from a place on: a `%`, or another
 module _ (s : List ℕ) (at i : ℕ) (h : at + i < length s) where
-  pub block-percent : getD s (at + i) 0 ≡ 37 → ltb (textLength (drop at s)) (i + 1) ≡ true
+  pub block-percent : getD s (at + i) 0 ≡ code "%" → ltb (textLength (drop at s)) (i + 1) ≡ true
   block-percent e =
       lt-ltb (textLength (drop at s)) (i + 1)
       (elim (decLt (textLength (drop at s)) i) [ yes k ↦ omega arith | no n ↦ omega (arith, text-past s at i (omega arith), text-percent s (at + i) h e) ])
 
-  pub block-more : (getD s (at + i) 0 ≡ 37 → ⊥) → ltb (textLength (drop at s)) i ≡ ltb (textLength (drop at s)) (i + 1)
+  pub block-more : (getD s (at + i) 0 ≡ code "%" → ⊥) → ltb (textLength (drop at s)) i ≡ ltb (textLength (drop at s)) (i + 1)
   block-more n = elim (decLt (textLength (drop at s)) i) [ yes k ↦ found k | no k ↦ not-found (omega arith) ]
     where
       found : textLength (drop at s) < i → ltb (textLength (drop at s)) i ≡ ltb (textLength (drop at s)) (i + 1)

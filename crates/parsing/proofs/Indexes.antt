@@ -1,74 +1,86 @@
--- An index that a format names is at least 1, and its digits stand before a `$`. Assumes nothing.
-use mathlib.Core.Path.{_≡_, refl, sym}
-use mathlib.Core.Bool.{Bool, true, false, _&&_, not}
+-- The argument that an element takes, named either way, is one of those that there are, and what follows stands behind its `%`. Assumes nothing.
+use mathlib.Core.Path.{_≡_}
+use mathlib.Core.Bool.{true, false, not}
 use mathlib.Core.List.{List, [], _∷_}
 use Prim.Native.Nat.{ℕ, _+_, _-_, _*_, _≤_, _<_}
+use Prim.Native.Char.{code}
 use native.Mathlib.Nat.{le-trans}
 use native.Mathlib.Omega.{arith}
 use lib.Dec.{eqb, leb}
 use lib.ListN.{length, drop}
 use borrow.Author.Tests.{leb-true, eqb-false, not-true}
-use Rattle.writing.specs.Choose.{choose}
-use Rattle.writing.proofs.Choose.{by-test}
+use Rattle.writing.proofs.Choose.{by-test, both}
 use Rattle.numerals.specs.Digits.{numberFrom, numberOf}
-use Rattle.numerals.specs.Params.{isDigit, isParam, leadingDigits, numberTaken, paramAt}
-use Rattle.numerals.specs.declared.NumericParam.{NumericParam}
-use Rattle.numerals.specs.declared.NumericParam.the-variants.{Literal, FromArgument}
-use Rattle.numerals.specs.declared.Taken.{Taken}
-use Rattle.numerals.specs.declared.Taken.the-variants.{Param, TooLarge}
+use Rattle.numerals.specs.Params.{isDigit, isParam, leadingDigits, largestNumber, numberTaken, numberAt}
+use Rattle.numerals.specs.declared.Number.{Number}
+use Rattle.numerals.specs.declared.Number.the-variants as N
 use Rattle.numerals.proofs.Params.{number-grows}
 use Rattle.specifiers.specs.Specifier.{beginsWith}
 use Rattle.specifiers.proofs.Bytes.{begins-inside}
-use Rattle.parsing.specs.Pieces.{isIndex, indexOf, indexAt}
+use Rattle.parsing.specs.Pieces.{within, isIndex, indexOf, indexAt, sameIndex, argumentAt}
+use Rattle.parsing.specs.declared.Cursor.{Cursor}
 use Rattle.parsing.specs.declared.Index.{Index}
 use Rattle.parsing.specs.declared.Index.the-variants as I
-
--- the parts of a test that holds
-pub and-left : (s t : Bool) → (s && t) ≡ true → s ≡ true
-and-left true t e = refl
-and-left false t e = e
-
-pub and-right : (s t : Bool) → (s && t) ≡ true → t ≡ true
-and-right true t e = e
-and-right false t e = absurd (let z : _≡_ {A = ℕ} 0 1 = cc in omega arith)
 
 -- digits that do not begin with 0 make a number of at least 1
 number-pos : (l : List ℕ) → isParam false l ≡ true → 1 ≤ numberOf 10 (leadingDigits l)
 unfolding leadingDigits numberOf numberFrom
 number-pos [] e = absurd (let z : _≡_ {A = ℕ} 0 1 = cc in omega arith)
 number-pos (b ∷ l) e =
-    let d = and-left (isDigit b) (not (eqb b 48)) e in
-    let lo = leb-true 48 b (and-left (leb 48 b) (leb b 57) d) in
-    let n = eqb-false b 48 (not-true (eqb b 48) (and-right (isDigit b) (not (eqb b 48)) e)) in
-    simp d (le-trans (omega arith) (number-grows (0 * 10 + (b - 48)) (leadingDigits l)))
+    let d = both (isDigit b) (not (eqb b (code "0"))) e in
+    let low = leb-true (code "0") b (both (leb (code "0") b) (leb b (code "9")) (d .0) .0) in
+    let other = eqb-false b (code "0") (not-true (eqb b (code "0")) (d .1)) in
+    simp (d .0) (le-trans (omega arith) (number-grows (0 * 10 + (b - code "0")) (leadingDigits l)))
 
-abbrev Positive : Index → Type 0
-Positive (I.Named a next count) = 1 ≤ a
-Positive (I.Refused n) = Unit {0}
+-- the two parts of an index
+module _ (s : List ℕ) (at : ℕ) (e : isIndex s at ≡ true) where
+  parts : (isParam false (drop at s) ≡ true) × (beginsWith (code "$") (drop (at + length (leadingDigits (drop at s))) s) ≡ true)
+  parts = both (isParam false (drop at s)) (beginsWith (code "$") (drop (at + length (leadingDigits (drop at s))) s)) e
 
-positive : (s : List ℕ) (at count : ℕ) → Positive (indexAt s at count)
-unfolding indexAt paramAt numberTaken
-positive s at count =
-    by-test Positive (beginsWith 36 (drop at s)) _ _ (λ _. tt)
-    (λ _. by-test Positive (isIndex s at) _ _
-    (λ e.
-    let p = and-left (isParam false (drop at s)) (beginsWith 36 (drop (at + length (leadingDigits (drop at s))) s)) e in
-    simp p (by-test (λ (t : Taken). Positive (indexOf t count)) (leb (numberOf 10 (leadingDigits (drop at s))) 2147483647) _ _ (λ _. number-pos (drop at s) p) (λ _. tt)))
-    (λ _. omega arith))
+  pub index-digit : isParam false (drop at s) ≡ true
+  index-digit = parts .0
 
-pub index-pos : (s : List ℕ) (at count a next counted : ℕ) → indexAt s at count ≡ I.Named a next counted → 1 ≤ a
-index-pos s at count a next counted e = rw e at (positive s at count)
+  -- the place behind an index's digits is that of its `$`
+  pub index-inside : (n next : ℕ) → numberAt s at ≡ N.Value n next → next < length s
+  unfolding numberAt numberTaken
+  index-inside n next =
+      by-test (λ (t : Number). t ≡ N.Value n next → next < length s) (leb (numberOf 10 (leadingDigits (drop at s))) largestNumber) _ _
+      (λ _ q. behind q (begins-inside s (at + length (leadingDigits (drop at s))) (code "$") (parts .1)))
+      (λ _ q. absurd (let z : _≡_ {A = ℕ} 0 1 = cc in omega arith))
+    where
+      behind : {m i : ℕ} → N.Value m i ≡ N.Value n next → i < length s → next < length s
+      behind {m} {i} q h = let k : i ≡ next = cc in omega arith
 
--- the place behind an index's digits is that of its `$`
-pub index-inside : (s : List ℕ) (at : ℕ) (p : NumericParam) (next : ℕ) → isIndex s at ≡ true → paramAt false s at ≡ Param p next → next < length s
-unfolding paramAt numberTaken
-index-inside s at p next e q =
-    let d = leadingDigits (drop at s) in
-    let t = and-left (isParam false (drop at s)) (beginsWith 36 (drop (at + length d) s)) e in
-    let i = begins-inside s (at + length d) 36 (and-right (isParam false (drop at s)) (beginsWith 36 (drop (at + length d) s)) e) in
-    go (leb (numberOf 10 d) 2147483647) i (simp t at q)
-  where
-    go : (t : Bool) → at + length (leadingDigits (drop at s)) < length s
-        → choose t (λ _. Param (Literal (numberOf 10 (leadingDigits (drop at s)))) (at + length (leadingDigits (drop at s)))) (λ _. TooLarge) ≡ Param p next → next < length s
-    go true i e = let n : at + length (leadingDigits (drop at s)) ≡ next = cc in omega arith
-    go false i e = absurd (let z : _≡_ {A = ℕ} 0 1 = cc in omega arith)
+-- An argument from 1 up to the number of kinds, and a place from `at` on.
+abbrev pub NamedIn : ℕ → ℕ → Index → Type 0
+NamedIn kinds at (I.Named a next count) = (1 ≤ a) × (a ≤ kinds) × (at ≤ next)
+NamedIn kinds at (I.Refused number) = Unit {0}
+
+module _ (kinds at : ℕ) where
+  within-in : (a next count : ℕ) → 1 ≤ a → at ≤ next → NamedIn kinds at (within kinds a next count)
+  within-in a next count h k = by-test (NamedIn kinds at) (leb a kinds) _ _ (λ e. (h, leb-true a kinds e, k)) (λ _. tt)
+
+  index-in : (s : List ℕ) (count : ℕ) → NamedIn kinds at (indexAt s kinds at count)
+  unfolding indexAt numberAt numberTaken
+  index-in s count =
+      let d = leadingDigits (drop at s) in
+      by-test (NamedIn kinds at) (beginsWith (code "$") (drop at s)) _ _ (λ _. tt)
+      (λ _. by-test (NamedIn kinds at) (isIndex s at) _ _
+      (λ e. by-test (λ (t : Number). NamedIn kinds at (indexOf t kinds count)) (leb (numberOf 10 d) largestNumber) _ _
+      (λ _. within-in (numberOf 10 d) (at + length d + 1) count (number-pos (drop at s) (index-digit s at e)) (omega arith)) (λ _. tt))
+      (λ _. within-in (count + 1) at (count + 1) (omega arith) (omega arith)))
+
+  same-in : (last next count : ℕ) → at ≤ next → NamedIn kinds at (sameIndex kinds last next count)
+  same-in last next count h =
+      by-test (NamedIn kinds at) (eqb last 0) _ _ (λ _. tt)
+      (λ e. let n = eqb-false last 0 e in within-in last next count (omega arith) h)
+
+module _ (s : List ℕ) (kinds : ℕ) (c : Cursor) where
+  pub argument-in : NamedIn kinds (c .at + 1) (argumentAt s kinds c)
+  unfolding argumentAt
+  argument-in =
+      by-test (NamedIn kinds (c .at + 1)) (beginsWith (code "<") (drop (c .at + 1) s)) _ _
+      (λ _. same-in kinds (c .at + 1) (c .last) (c .at + 2) (c .count) (omega arith)) (λ _. index-in kinds (c .at + 1) s (c .count))
+
+  pub argument-named : (a next count : ℕ) → argumentAt s kinds c ≡ I.Named a next count → (1 ≤ a) × (a ≤ kinds) × (c .at + 1 ≤ next)
+  argument-named a next count e = rw e at argument-in

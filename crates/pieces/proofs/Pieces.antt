@@ -1,26 +1,62 @@
--- What a piece's text and size are, by the piece and by an element's plan. Assumes nothing.
-use Prim.Native.Nat.{ℕ, _+_, _^_, _≤_, _<_}
-use mathlib.Core.Path.{_≡_, ap, subst}
-use mathlib.Core.List.{List, []}
+-- What a piece's text and size are, by the piece. Assumes nothing.
+use Prim.Native.Nat.{ℕ, _^_, _<_}
+use mathlib.Core.Path.{_≡_, refl, ap, _∙_}
+use mathlib.Core.Bool.{Bool}
+use mathlib.Core.List.{List}
+use mathlib.Core.Option.{Option, none, some}
 use native.Mathlib.Omega.{arith}
-use lib.ListN.{length, drop, length-drop}
-use lib.Seq.{length-take-le}
+use lib.ListN.{length}
+use Rattle.writing.specs.Laid.{Put}
+use Rattle.layout.specs.declared.Mark.the-variants.{NoMark}
+use Rattle.conversions.specs.Kinds.{printsAs}
+use Rattle.conversions.specs.declared.Form.{Form}
+use Rattle.conversions.specs.declared.Form.the-variants as F
 use Rattle.specifiers.specs.declared.Element.{Element}
-use Rattle.parsing.specs.declared.Piece.the-variants.{Fixed, Element as AnElement}
+use Rattle.parsing.specs.declared.Piece.the-variants.{Element as AnElement}
+use Rattle.strings.specs.Cut.{cutTo}
+use Rattle.strings.proofs.Cuts.{cut-again}
+use Rattle.rows.specs.Row.{isNull, kindByteOf, valueOf, namedText}
+use Rattle.rows.specs.Arguments.{Argument}
 use Rattle.rows.proofs.Rows.{kinds-length}
-use Rattle.bodies.specs.declared.Plan.{Plan}
-use Rattle.bodies.specs.Bodies.{Fits, planText}
-use Rattle.plans.specs.declared.Planned.the-variants.{Laid, Stops}
-use Rattle.plans.proofs.Fits.{PlanFits}
-use Rattle.elements.proofs.Fits.{element-fits}
-use Rattle.pieces.specs.declared.Size.the-variants as S
-use Rattle.pieces.specs.Texts.{Argument, Ready, plannedText, unpadded, planOf, stopOf, pieceText, sizeOf}
-use Rattle.pieces.proofs.Rows.{named-short}
+use Rattle.elements.specs.Texts.{Shown, Text, Stops, paddedText, valueText, elementText, textOf, stopOf}
+use Rattle.elements.specs.Sizes.{Sized, sizeOf}
+use Rattle.elements.specs.declared.Size.{Size}
+use Rattle.elements.specs.declared.Size.the-variants as S
+use Rattle.pieces.specs.PieceTexts.{unpadded, shownPiece}
+use Rattle.pieces.specs.Ready.{Ready, shownWith}
 
--- fixed text is as long as its piece says
-pub fixed-length : (s row : List ℕ) (start len : ℕ) → start + len ≤ length s → length (unpadded s row (Fixed start len)) ≡ len
-unfolding unpadded
-fixed-length s row start len h = length-take-le len (drop start s) (simp length-drop (omega arith))
+-- the size by what stops a text and by its length
+abbrev pub sized : Option ℕ → ℕ → Size
+sized none n = S.Bytes n
+sized (some number) n = S.Stops number
+
+pub size-by : (t : Shown) → sizeOf t ≡ sized (stopOf t) (length (textOf t))
+size-by (Text t) = refl
+size-by (Stops number) = refl
+
+-- what nothing stops is its text
+pub shown-text : (t : Shown) → stopOf t ≡ none → t ≡ Text (textOf t)
+shown-text (Text t) e = refl
+shown-text (Stops number) e =
+    let z : _≡_ {A = ℕ} 0 1 = cc in
+    absurd (omega arith)
+
+-- a text put where there is room
+pub put-sized : (d t out : List ℕ) (n : ℕ) → Put d t n out → n < 2 ^ 42 → Sized d (Text t) (S.Bytes n) out
+put-sized d t out n w h = record { size = ap S.Bytes (w .0); below = h; bytes = w .1 }
+
+-- a text that is cut already prints as the whole does
+module _ (e : Element) (t : List ℕ) (v : ℕ) where
+  value-cut : (f : Form) (null : Bool) → valueText e f null (cutTo (e .precision) t) v ≡ valueText e f null t v
+  value-cut (F.Integer f w) null = refl
+  value-cut F.HexFloat null = refl
+  value-cut F.Boolean null = refl
+  value-cut F.Text null = ap (λ (u : List ℕ). Text (paddedText e NoMark u)) (cut-again (e .precision) t)
+  value-cut F.NotPrinted null = refl
+
+  pub element-cut : (k : ℕ) → elementText e k (cutTo (e .precision) t) v ≡ elementText e k t v
+  unfolding elementText
+  element-cut k = value-cut (printsAs (e .conversion) k) (isNull k)
 
 module _ (s row : List ℕ) (e : Element) where
   pub argument-in : Ready s row (AnElement e) → Argument row (e .argument)
@@ -30,27 +66,8 @@ module _ (s row : List ℕ) (e : Element) where
     last = omega (arith, r .inside .1, kinds-length row (r .kept));
   }
 
-  pub part-short : Ready s row (AnElement e) → length (unpadded s row (AnElement e)) < 2 ^ 32
-  unfolding unpadded
-  part-short r = named-short row (e .argument) (argument-in r)
-
-  pub plan-fits : (p : Plan) → planOf s row e ≡ Laid p → Fits (unpadded s row (AnElement e)) (p .body)
-  unfolding planOf
-  plan-fits p q = subst (PlanFits (unpadded s row (AnElement e))) q (element-fits e _ _ _)
-
-  pub laid-text : (p : Plan) → planOf s row e ≡ Laid p → pieceText s row (AnElement e) ≡ planText (unpadded s row (AnElement e)) p
-  unfolding pieceText
-  laid-text p q = ap (plannedText (unpadded s row (AnElement e))) q
-
-  pub laid-size : (p : Plan) → planOf s row e ≡ Laid p
-      → sizeOf s row (AnElement e) ≡ S.Bytes (length (planText (unpadded s row (AnElement e)) p))
-  unfolding sizeOf stopOf
-  laid-size p q = simp (q, laid-text p q)
-
-  pub stopped-text : (n : ℕ) → planOf s row e ≡ Stops n → pieceText s row (AnElement e) ≡ []
-  unfolding pieceText
-  stopped-text n q = ap (plannedText (unpadded s row (AnElement e))) q
-
-  pub stopped-size : (n : ℕ) → planOf s row e ≡ Stops n → sizeOf s row (AnElement e) ≡ S.Stops n
-  unfolding sizeOf stopOf
-  stopped-size n q = simp q
+  -- an element printed from its unpadded text
+  pub element-shown : (t : List ℕ) → t ≡ unpadded s row (AnElement e) → shownWith row e t ≡ shownPiece s row (AnElement e)
+  unfolding unpadded shownPiece
+  element-shown t h =
+      ap (shownWith row e) h ∙ element-cut e (namedText row (e .argument)) (valueOf row (e .argument)) (kindByteOf row (e .argument))

@@ -1,28 +1,26 @@
 -- What an accepted format and row have. Assumes nothing.
-use mathlib.Core.Path.{_≡_, refl, sym, subst}
-use mathlib.Core.Bool.{Bool, true, false, _&&_}
+use mathlib.Core.Path.{_≡_, refl, subst}
+use mathlib.Core.Bool.{true, _&&_}
 use mathlib.Core.List.{List}
 use mathlib.Core.Option.{Option, none, some}
 use Prim.Native.Nat.{ℕ, _≤_}
 use native.Mathlib.Omega.{arith}
 use lib.Dec.{leb, ltb}
 use lib.ListN.{length}
-use borrow.Author.Tests.{leb-true, ltb-false}
+use borrow.Author.Tests.{leb-true}
 use Rattle.writing.proofs.Choose.{by-test, both}
 use Rattle.utf8.specs.Utf8.{wellFormed}
-use Rattle.parsing.specs.Check.{ended}
-use Rattle.parsing.specs.Listed.{placed}
+use Rattle.parsing.specs.Limits.{mostFormat}
+use Rattle.parsing.specs.Listed.{placed, ended}
 use Rattle.parsing.specs.declared.Ended.{Ended}
 use Rattle.parsing.specs.declared.Ended.the-variants.{Finished, Stopped}
-use Rattle.parsing.proofs.Cover.{count}
 use Rattle.rows.specs.Row.{kindsOf, isRow}
-use Rattle.printing.specs.Printing.{printedText, Stop, firstStop, unlessStopped, measuredEnd, measured, within, printed}
+use Rattle.printing.specs.Printing.{printedText, Stop, firstStop, unlessStopped, measuredEnd, measured, largestEnd, within, printed}
 use Rattle.printing.specs.Passes.{Room}
 use Rattle.printing.specs.declared.Outcome.{Outcome}
 use Rattle.printing.specs.declared.Outcome.the-variants.{Accepted, Refused}
 
 pub record Accepts (s row : List ℕ) (n k : ℕ) : Type 0 where
-  pub short : length s ≤ 4096
   pub kept : isRow row ≡ true
   pub total : n ≡ length (printedText s row)
   pub pieces : k ≡ length (placed s (kindsOf row))
@@ -32,32 +30,33 @@ abbrev Says : List ℕ → List ℕ → Outcome → Type 0
 Says s row (Accepted n k) = Accepts s row n k
 Says s row (Refused number place) = Unit {0}
 
-module _ (s row : List ℕ) (h : length s ≤ 4096) (r : isRow row ≡ true) where
-  says-end : (x : Ended) → ended s (kindsOf row) ≡ x → Says s row (measuredEnd s row x)
+module _ (s row : List ℕ) where
+  says-end : isRow row ≡ true → (x : Ended) → Says s row (measuredEnd s row x)
   unfolding measuredEnd
-  says-end (Finished c) e = go (firstStop s row (placed s (kindsOf row))) refl
+  says-end r Finished = go (firstStop s row (placed s (kindsOf row))) refl
     where
-      go : (x : Option Stop) → firstStop s row (placed s (kindsOf row)) ≡ x → Says s row (unlessStopped x (Accepted (length (printedText s row)) (c .pieces)))
-      go none q = record { short = h; kept = r; total = refl; pieces = sym (count s (kindsOf row) c e); unstopped = q }
+      go : (x : Option Stop) → firstStop s row (placed s (kindsOf row)) ≡ x
+          → Says s row (unlessStopped x (Accepted (length (printedText s row)) (length (placed s (kindsOf row)))))
+      go none q = record { kept = r; total = refl; pieces = refl; unstopped = q }
       go (some t) q = tt
-  says-end (Stopped number place) e = tt
+  says-end r (Stopped number place) = tt
 
-says : (s row : List ℕ) → Says s row (measured s row)
-unfolding measured
-says s row =
-    by-test (Says s row) (ltb 4096 (length s)) _ _ (λ _. tt)
-    (λ h. by-test (Says s row) (wellFormed s) _ _
-    (λ _. by-test (Says s row) (isRow row) _ _ (λ r. says-end s row (ltb-false 4096 (length s) h) r (ended s (kindsOf row)) refl) (λ _. tt)) (λ _. tt))
+  says : Says s row (measured s row)
+  unfolding measured
+  says =
+      by-test (Says s row) (ltb mostFormat (length s)) _ _ (λ _. tt)
+      (λ _. by-test (Says s row) (wellFormed s) _ _
+      (λ _. by-test (Says s row) (isRow row) _ _ (λ r. says-end r (ended s (kindsOf row))) (λ _. tt)) (λ _. tt))
 
-pub accepted : (s row : List ℕ) (n k : ℕ) → measured s row ≡ Accepted n k → Accepts s row n k
-accepted s row n k e = subst (Says s row) e (says s row)
+  accepted : (n k : ℕ) → measured s row ≡ Accepted n k → Accepts s row n k
+  accepted n k e = subst (Says s row) e says
 
 -- What a format and row have that are printed into so much room.
 pub record Fitted (s row : List ℕ) (room slots n k : ℕ) : Type 0 where
   pub answer : measured s row ≡ Accepted n k
   pub accepts : Accepts s row n k
   pub bytes : n ≤ room
-  pub wide : n ≤ 4294967295
+  pub wide : n ≤ largestEnd
   pub slots-enough : k ≤ slots
 
 abbrev Fits : List ℕ → List ℕ → ℕ → ℕ → Outcome → Type 0
@@ -66,13 +65,19 @@ Fits s row room slots (Refused number place) = Unit {0}
 
 module _ (s row : List ℕ) (room slots : ℕ) where
   fits : (x : Outcome) → measured s row ≡ x → Fits s row room slots (within room slots x)
-  fits (Accepted n k) e = by-test (Fits s row room slots) (leb n room && leb n 4294967295 && leb k slots) _ _ enough (λ _. tt)
+  fits (Accepted n k) e = by-test (Fits s row room slots) (leb n room && leb n largestEnd && leb k slots) _ _ enough (λ _. tt)
     where
-      enough : (leb n room && leb n 4294967295 && leb k slots) ≡ true → Fitted s row room slots n k
+      enough : (leb n room && leb n largestEnd && leb k slots) ≡ true → Fitted s row room slots n k
       enough h =
-          let p = both (leb n room && leb n 4294967295) (leb k slots) h in
-          let q = both (leb n room) (leb n 4294967295) (p .0) in
-          record { answer = e; accepts = accepted s row n k e; bytes = leb-true n room (q .0); wide = leb-true n 4294967295 (q .1); slots-enough = leb-true k slots (p .1) }
+          let p = both (leb n room && leb n largestEnd) (leb k slots) h in
+          let q = both (leb n room) (leb n largestEnd) (p .0) in
+          record {
+            answer = e;
+            accepts = accepted s row n k e;
+            bytes = leb-true n room (q .0);
+            wide = leb-true n largestEnd (q .1);
+            slots-enough = leb-true k slots (p .1);
+          }
   fits (Refused number place) e = tt
 
   pub fitted : (n k : ℕ) → printed s row room slots ≡ Accepted n k → Fitted s row room slots n k

@@ -9,22 +9,25 @@ use Rattle.printing.specs.Printing.{joined, endsFrom}
 
 -- the next of a list: where it is, and the lists taken up to it
 module _ {A : Type 0} where
+  no-next : (x : A) (r : List A) → [] ≡ x ∷ r → ⊥
+  no-next x r e = let z : _≡_ {A = ℕ} 0 (suc (length r)) = ap length e in omega arith
+
   pub next-below : (k : ℕ) (xs : List A) (x : A) (r : List A) → drop k xs ≡ x ∷ r → k < length xs
-  next-below zero [] x r e = absurd (let z : _≡_ {A = ℕ} 0 (suc (length r)) = ap length e in omega arith)
+  next-below zero [] x r e = absurd (no-next x r e)
   next-below zero (y ∷ xs) x r e = omega arith
-  next-below (suc k) [] x r e = absurd (let z : _≡_ {A = ℕ} 0 (suc (length r)) = ap length e in omega arith)
+  next-below (suc k) [] x r e = absurd (no-next x r e)
   next-below (suc k) (y ∷ xs) x r e = let h = next-below k xs x r e in omega arith
 
   pub next-rest : (k : ℕ) (xs : List A) (x : A) (r : List A) → drop k xs ≡ x ∷ r → drop (suc k) xs ≡ r
-  next-rest zero [] x r e = absurd (let z : _≡_ {A = ℕ} 0 (suc (length r)) = ap length e in omega arith)
+  next-rest zero [] x r e = absurd (no-next x r e)
   next-rest zero (y ∷ xs) x r e = cc
-  next-rest (suc k) [] x r e = absurd (let z : _≡_ {A = ℕ} 0 (suc (length r)) = ap length e in omega arith)
+  next-rest (suc k) [] x r e = absurd (no-next x r e)
   next-rest (suc k) (y ∷ xs) x r e = next-rest k xs x r e
 
   pub next-taken : (k : ℕ) (xs : List A) (x : A) (r : List A) → drop k xs ≡ x ∷ r → take (suc k) xs ≡ take k xs ++ (x ∷ [])
-  next-taken zero [] x r e = absurd (let z : _≡_ {A = ℕ} 0 (suc (length r)) = ap length e in omega arith)
+  next-taken zero [] x r e = absurd (no-next x r e)
   next-taken zero (y ∷ xs) x r e = let h : y ≡ x = cc in ap (λ (z : A). z ∷ []) h
-  next-taken (suc k) [] x r e = absurd (let z : _≡_ {A = ℕ} 0 (suc (length r)) = ap length e in omega arith)
+  next-taken (suc k) [] x r e = absurd (no-next x r e)
   next-taken (suc k) (y ∷ xs) x r e = ap (λ (zs : List A). y ∷ zs) (next-taken k xs x r e)
 
   pub none-left : (k : ℕ) (xs : List A) → drop k xs ≡ [] → take k xs ≡ xs
@@ -32,7 +35,7 @@ module _ {A : Type 0} where
   none-left (suc k) [] e = refl
   none-left (suc k) (y ∷ xs) e = ap (λ (zs : List A). y ∷ zs) (none-left k xs e)
 
-pub joined-append : (ts us : List (List ℕ)) → joined (ts ++ us) ≡ joined ts ++ joined us
+joined-append : (ts us : List (List ℕ)) → joined (ts ++ us) ≡ joined ts ++ joined us
 unfolding joined
 joined-append [] us = refl
 joined-append (t ∷ ts) us = ap (λ (l : List ℕ). t ++ l) (joined-append ts us) ∙ sym (append-assoc t (joined ts) (joined us))
@@ -44,7 +47,8 @@ alone t = append-nil t
 pub joined-one : (ts : List (List ℕ)) (t : List ℕ) → joined (ts ++ (t ∷ [])) ≡ joined ts ++ t
 joined-one ts t = joined-append ts (t ∷ []) ∙ ap (λ (l : List ℕ). joined ts ++ l) (alone t)
 
-pub ends-one : (n : ℕ) (ts : List (List ℕ)) (t : List ℕ) → endsFrom n (ts ++ (t ∷ [])) ≡ endsFrom n ts ++ ((n + length (joined ts) + length t) ∷ [])
+pub ends-one : (n : ℕ) (ts : List (List ℕ)) (t : List ℕ)
+    → endsFrom n (ts ++ (t ∷ [])) ≡ endsFrom n ts ++ ((n + length (joined ts) + length t) ∷ [])
 unfolding endsFrom joined
 ends-one n [] t = let e : n + length t ≡ n + 0 + length t = omega arith in ap (λ (m : ℕ). m ∷ []) e
 ends-one n (u ∷ ts) t =
@@ -63,7 +67,8 @@ nth-end n [] i h = absurd (omega arith)
 nth-end n (t ∷ ts) zero h = ap (λ (l : List ℕ). n + length l) (sym (append-nil t))
 nth-end n (t ∷ ts) (suc i) h = nth-end (n + length t) ts i (omega arith) ∙ simp length-append (omega arith)
 
-pub nth-text : (ts : List (List ℕ)) (i : ℕ) (rest : List ℕ) → i < length ts → take (length (getD ts i [])) (drop (length (joined (take i ts))) (joined ts ++ rest)) ≡ getD ts i []
+pub nth-text : (ts : List (List ℕ)) (i : ℕ) (rest : List ℕ) → i < length ts
+    → take (length (getD ts i [])) (drop (length (joined (take i ts))) (joined ts ++ rest)) ≡ getD ts i []
 unfolding joined
 nth-text [] i rest h = absurd (omega arith)
 nth-text (t ∷ ts) zero rest h = simp append-assoc (take-append-seam t (joined ts ++ rest))

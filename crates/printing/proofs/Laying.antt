@@ -1,232 +1,212 @@
--- A pass: one piece more is added up, and stands in the output with one end more. Assumes nothing.
+-- A pass over the pieces: what holds behind k of them, and what is left behind all. Assumes nothing.
 use mathlib.Core.Path.{_≡_, refl, sym, ap, subst, _∙_}
+use mathlib.Core.Bool.{Bool, true, false}
 use mathlib.Core.List.{List, [], _∷_, _++_}
 use mathlib.Core.Option.{Option, none, some}
-use Prim.Native.Nat.{ℕ, suc, _+_, _-_, _%_, _≤_, _<_}
-use native.Mathlib.Nat.{mod-eq-of-lt}
+use Prim.Native.Nat.{ℕ, _+_, _≤_, _<_, max}
 use native.Mathlib.Omega.{arith}
-use lib.ListN.{length, take, drop, set, length-append}
+use lib.ListN.{length, take}
 use lib.Seq.{length-take-le}
-use borrow.Rule.Slice.PartAt.{part-to-end}
 use Rattle.writing.specs.Laid.{laid}
-use Rattle.writing.proofs.Laid.{laid-none, laid-more}
+use Rattle.writing.proofs.Laid.{laid-none}
 use Rattle.parsing.specs.Pieces.{start, pieceAt}
-use Rattle.parsing.specs.Listed.{Placed, placedFrom, placed, PieceIn}
+use Rattle.parsing.specs.Check.{argumentOf, largestOf}
+use Rattle.parsing.specs.Covers.{PieceIn}
+use Rattle.parsing.specs.Listed.{mostPieces, Placed, placed, ended}
 use Rattle.parsing.specs.declared.Piece.{Piece}
 use Rattle.parsing.specs.declared.Cursor.{Cursor}
-use Rattle.parsing.specs.Check.{ended}
 use Rattle.parsing.specs.declared.Ended.{Ended}
-use Rattle.parsing.specs.declared.Step.the-variants as R
-use Rattle.parsing.proofs.Progress.{advanced}
+use Rattle.parsing.specs.declared.Ended.the-variants.{Finished, Stopped}
+use Rattle.parsing.specs.declared.Step.the-variants.{Found}
 use Rattle.parsing.proofs.Sound.{sound}
 use Rattle.rows.specs.Row.{kindsOf}
-use Rattle.pieces.specs.Texts.{Ready, pieceText}
-use Rattle.printing.specs.Printing.{textsOf, texts, joined, printedText, endsFrom, Stop, firstStop, unlessStopped, measuredEnd}
-use Rattle.printing.specs.Passes.{counted, outcomeOf, withEnd, TallyBelow, Passed, Room, Filled, Added, LaidPiece, Glanced}
-use Rattle.printing.specs.declared.Glance.{Glance}
-use Rattle.printing.specs.declared.Glance.the-variants as G
+use Rattle.pieces.specs.PieceTexts.{pieceText}
+use Rattle.pieces.specs.Ready.{Ready}
+use Rattle.printing.specs.Printing.{textsOf, texts, joined, printedText, endsFrom, Stop, firstStop, unlessStopped}
+use Rattle.printing.specs.Passes.{counted, tallied, outcomeOf, withEnd, TallyBelow, Passed, Room, Filled, Added, Walk}
 use Rattle.printing.specs.declared.Outcome.{Outcome}
-use Rattle.printing.specs.declared.Outcome.the-variants.{Accepted, Refused}
+use Rattle.printing.specs.declared.Outcome.the-variants.{Accepted}
 use Rattle.printing.specs.declared.Tally.{Tally}
-use Rattle.printing.specs.declared.Tally.the-variants.{Length}
-use Rattle.printing.proofs.Joined.{next-below, next-taken, joined-one, joined-part, ends-one, ends-length}
-use Rattle.printing.proofs.Reached.{Reached, reached-start, next-piece, reached-next, reached-refused, reached-end, reached-out}
-use Rattle.printing.proofs.Tallies.{texts-one, texts-length, texts-take, tallyOf, tally-none, tally-end, tally-length, counted-next}
-use Rattle.printing.proofs.Behind.{laid-behind}
+use Rattle.printing.specs.declared.Tally.the-variants.{Length, Stops}
+use Rattle.printing.proofs.Joined.{joined-part}
+use Rattle.printing.proofs.Reached.{Reached, reached-start, next-inside, taken-next, reached-next, reached-end, all-taken, all-counted, largest-one}
+use Rattle.printing.proofs.Tallies.{texts-one, texts-length, texts-take, tallied-one, tally-length, tally-end}
+use Rattle.printing.proofs.Behind.{joined-length, text-behind, end-behind}
 
 -- The texts of the first k pieces.
-unfoldable pub textsTo : List ℕ → List ℕ → List ℕ → ℕ → List (List ℕ)
+unfoldable textsTo : List ℕ → List ℕ → List ℕ → ℕ → List (List ℕ)
 textsTo s row ks k = textsOf s row (take k (placed s ks))
 
-none-yet : (s row ks : List ℕ) → textsTo s row ks 0 ≡ []
-unfolding textsTo textsOf
-none-yet s row ks = refl
-
--- of a format and the kinds of a row, into an output d and ends e that have room
-module _ (s row ks d e : List ℕ) (kinds : ks ≡ kindsOf row) (room : Room s row d e) where
-  whole : joined (textsOf s row (placed s ks)) ≡ printedText s row
-  unfolding printedText texts
-  whole = ap (λ (l : List ℕ). joined (textsOf s row (placed s l))) kinds
-
+-- of a format and the kinds of a row
+module _ (s row ks : List ℕ) (kinds : ks ≡ kindsOf row) where
   all-texts : (k : ℕ) → take k (placed s ks) ≡ placed s ks → textsTo s row ks k ≡ texts s row
   unfolding textsTo texts
   all-texts k h = ap (textsOf s row) h ∙ ap (λ (l : List ℕ). textsOf s row (placed s l)) kinds
 
   part-le : (k : ℕ) → length (joined (textsTo s row ks k)) ≤ length (printedText s row)
-  unfolding textsTo
-  part-le k = omega (arith, ap (λ (ts : List (List ℕ)). length (joined ts)) (texts-take s row k (placed s ks)), joined-part k (textsOf s row (placed s ks)), ap length whole)
+  unfolding textsTo printedText texts
+  part-le k =
+      let whole = ap (λ (l : List ℕ). length (joined (textsOf s row (placed s l)))) kinds in
+      let part = ap (λ (ts : List (List ℕ)). length (joined ts)) (texts-take s row k (placed s ks)) in
+      omega (arith, part, joined-part k (textsOf s row (placed s ks)), whole)
 
-  so-far : (k : ℕ) → length (joined (textsTo s row ks k)) ≤ length d
-  so-far k = omega (arith, part-le k, room .bytes)
+-- Behind k pieces, where all have room and none is stopped: their texts and ends stand over the starts of d and e.
+record Held (s row ks d e : List ℕ) (k : ℕ) (out ends : List ℕ) : Type 0 where
+  bytes : out ≡ laid d (joined (textsTo s row ks k))
+  slots : ends ≡ laid e (endsFrom 0 (textsTo s row ks k))
 
-  -- the next piece
-  module _ (k : ℕ) (p : Placed) (rest : List Placed) (x : drop k (placed s ks) ≡ p ∷ rest) where
-    one-more : textsTo s row ks (suc k) ≡ textsTo s row ks k ++ (pieceText s row (p .piece) ∷ [])
-    unfolding textsTo
-    one-more = ap (textsOf s row) (next-taken k (placed s ks) p rest x) ∙ texts-one s row (take k (placed s ks)) p
+-- What holds behind k pieces of a pass that prints, and of any pass.
+pub record Printing (s row ks d e : List ℕ) (k : ℕ) (t : Tally) (out ends : List ℕ) : Type 0 where
+  tally : t ≡ tallied s row (Length 0) (take k (placed s ks))
+  held : Room s row d e → firstStop s row (placed s ks) ≡ none → Held s row ks d e k out ends
 
-    joined-more : joined (textsTo s row ks (suc k)) ≡ joined (textsTo s row ks k) ++ pieceText s row (p .piece)
-    joined-more = ap joined one-more ∙ joined-one (textsTo s row ks k) (pieceText s row (p .piece))
-
-    length-more : length (joined (textsTo s row ks (suc k))) ≡ length (joined (textsTo s row ks k)) + length (pieceText s row (p .piece))
-    length-more = ap length joined-more ∙ length-append (joined (textsTo s row ks k)) (pieceText s row (p .piece))
-
-    bytes-fit : length (joined (textsTo s row ks k)) + length (pieceText s row (p .piece)) ≤ length d
-    bytes-fit = omega (arith, length-more, part-le (suc k), room .bytes)
-
-    wide-fit : length (joined (textsTo s row ks k)) + length (pieceText s row (p .piece)) ≤ 4294967295
-    wide-fit = omega (arith, length-more, part-le (suc k), room .wide)
-
-    slot : k < length e
-    slot = omega (arith, next-below k (placed s ks) p rest x, room .slots, ap (λ (l : List ℕ). length (placed s l)) kinds)
-
-    ends-so-far : length (endsFrom 0 (textsTo s row ks k)) ≡ k
-    unfolding textsTo
-    ends-so-far =
-        let h : k ≤ length (placed s ks) = omega (arith, next-below k (placed s ks) p rest x) in
-        ends-length 0 (textsOf s row (take k (placed s ks))) ∙ texts-length s row (take k (placed s ks)) ∙ length-take-le k (placed s ks) h
-
-    out-next : (D out : List ℕ) (n : ℕ) → D ≡ laid d (joined (textsTo s row ks k)) → n ≡ length (joined (textsTo s row ks k))
-        → out ≡ laid D (take n D ++ pieceText s row (p .piece)) → out ≡ laid d (joined (textsTo s row ks (suc k)))
-    out-next D out n h e q = q ∙ laid-behind d (joined (textsTo s row ks k)) (pieceText s row (p .piece)) D n h (sym e) ∙ ap (laid d) (sym joined-more)
-
-    ends-next : (E : List ℕ) (b : ℕ) → E ≡ laid e (endsFrom 0 (textsTo s row ks k)) → b ≡ length (joined (textsTo s row ks k)) + length (pieceText s row (p .piece))
-        → set E k b ≡ laid e (endsFrom 0 (textsTo s row ks (suc k)))
-    ends-next E b h q =
-        let w : b ≡ 0 + length (joined (textsTo s row ks k)) + length (pieceText s row (p .piece)) = omega (arith, q) in
-        ap (λ (l : List ℕ). set l k b) h ∙ laid-more e (endsFrom 0 (textsTo s row ks k)) k b ends-so-far slot
-        ∙ ap (λ (m : ℕ). laid e (endsFrom 0 (textsTo s row ks k) ++ (m ∷ []))) w
-        ∙ ap (laid e) (sym (ap (endsFrom 0) one-more ∙ ends-one 0 (textsTo s row ks k) (pieceText s row (p .piece))))
-
--- Behind some pieces, where all have room and none is stopped: their texts and ends stand over the starts of d and e.
-pub record Held (s row ks d e : List ℕ) (c : Cursor) (out ends : List ℕ) : Type 0 where
-  pub bytes : out ≡ laid d (joined (textsTo s row ks (c .pieces)))
-  pub slots : ends ≡ laid e (endsFrom 0 (textsTo s row ks (c .pieces)))
-
--- What holds behind some pieces.
-pub record Laying (s row ks d e : List ℕ) (left : ℕ) (c : Cursor) (t : Tally) (out ends : List ℕ) : Type 0 where
-  pub reached : Reached s ks left c
-  pub tally : t ≡ tallyOf s row (take (c .pieces) (placed s ks))
-  pub below : TallyBelow (c .pieces) t
-  pub held : Room s row d e → firstStop s row (placed s ks) ≡ none → Held s row ks d e c out ends
+pub record Laying (s row ks : List ℕ) (prints : Bool) (d e : List ℕ) (k : ℕ) (c : Cursor) (t : Tally) (m : ℕ) (out ends : List ℕ) : Type 0 where
+  pub reached : Reached s ks k c
+  largest : m ≡ largestOf (take k (placed s ks))
+  pub below : TallyBelow k t
+  printing : prints ≡ true → Printing s row ks d e k t out ends
   pub as-long : length out ≡ length d
   pub as-many : length ends ≡ length e
 
 -- a piece that is found can be printed
-pub piece-ready : (s row ks : List ℕ) → Passed s row ks → (c : Cursor) (p : Piece) (n : Cursor) → pieceAt s ks c ≡ R.Found p n → Ready s row p
-piece-ready s row ks passed c p n f = record { short = passed .short; kept = passed .kept; inside = subst (λ (l : List ℕ). PieceIn s l p) (passed .kinds) (sound s ks c p n f) }
+pub piece-ready : {s row ks : List ℕ} {n : Cursor} {p : Piece} → Passed s row ks → (c : Cursor) → c .at < length s → pieceAt s ks c ≡ Found p n
+    → Ready s row p
+piece-ready {s} {row} {ks} {n} {p} passed c h f = record {
+  short = passed .short;
+  kept = passed .kept;
+  inside = subst (λ (l : List ℕ). PieceIn s l p) (passed .kinds) (sound s ks c p n h f);
+}
 
--- a format and kinds that are handed on whole
-pub handed-on : (s ks : List ℕ) (c : Cursor) → pieceAt s ks c ≡ pieceAt (take (length s - 0) (drop 0 s)) (take (length ks - 0) (drop 0 ks)) c
-handed-on s ks c = sym (ap (λ (l : List ℕ). pieceAt l (take (length ks - 0) (drop 0 ks)) c) (part-to-end s 0) ∙ ap (λ (l : List ℕ). pieceAt s l c) (part-to-end ks 0))
+below-more : (k : ℕ) (t : Tally) → TallyBelow k t → TallyBelow (k + 1) t
+below-more k (Length n) h = omega arith
+below-more k (Stops number place) h = tt
 
-module _ (s row ks d e : List ℕ) (passed : Passed s row ks) where
-  pub laying-start : (c : Cursor) → c ≡ start → Laying s row ks d e 513 c (Length 0) d e
-  unfolding joined endsFrom
-  laying-start c q =
-      let n : textsTo s row ks (c .pieces) ≡ [] = ap (λ (x : Cursor). textsTo s row ks (x .pieces)) q ∙ none-yet s row ks in
-      record {
-        reached = reached-start s ks c q;
-        tally = sym (ap (λ (x : Cursor). tallyOf s row (take (x .pieces) (placed s ks))) q ∙ tally-none s row);
-        below = omega arith;
-        held = λ _ _. record {
-          bytes = sym (ap (λ (ts : List (List ℕ)). laid d (joined ts)) n ∙ laid-none d);
-          slots = sym (ap (λ (ts : List (List ℕ)). laid e (endsFrom 0 ts)) n ∙ laid-none e);
-        };
-        as-long = refl;
-        as-many = refl;
+module _ {s row ks : List ℕ} {prints : Bool} {d e : List ℕ} where
+  pub laying-start : {c : Cursor} → c ≡ start → Laying s row ks prints d e 0 c (Length 0) 0 d e
+  unfolding textsTo textsOf joined endsFrom tallied largestOf
+  laying-start q = record {
+    reached = reached-start q;
+    largest = refl;
+    below = omega arith;
+    printing = λ _. record { tally = refl; held = λ _ _. record { bytes = sym (laid-none d); slots = sym (laid-none e) } };
+    as-long = refl;
+    as-many = refl;
+  }
+
+  -- the same under other names
+  pub laying-as : {k : ℕ} {c : Cursor} {t t′ : Tally} {m m′ : ℕ} {out out′ ends ends′ : List ℕ} → t′ ≡ t → m′ ≡ m → out′ ≡ out → ends′ ≡ ends
+      → Laying s row ks prints d e k c t m out ends → Laying s row ks prints d e k c t′ m′ out′ ends′
+  laying-as p q o r w = rw (p, q, o, r) w
+
+  -- at a refusal
+  pub walk-stopped : {x : Ended} {number place : ℕ} {t : Tally} {k m : ℕ} {out ends : List ℕ} → x ≡ Stopped number place
+      → ended s ks ≡ Stopped number place → Walk s row ks prints d e (record { end = x; tally = t; pieces = k; largest = m }) out ends
+  walk-stopped {x} {t = t} {k = k} {out = out} {ends = ends} q h = record {
+    end = q ∙ sym h;
+    pieces = λ i. absurd (never i);
+    largest = λ i. absurd (never i);
+    tally = λ _ i. absurd (never i);
+    filled = λ _. subst (λ (y : Ended). Filled s row d e (outcomeOf y t k) out ends) (sym q) tt;
+  }
+    where
+      never : x ≡ Finished → ⊥
+      never i = let z : _≡_ {A = ℕ} 0 1 = cc in omega arith
+
+  module _ {k : ℕ} {c : Cursor} {t : Tally} {m : ℕ} {out ends : List ℕ} (w : Laying s row ks prints d e k c t m out ends) where
+    -- one piece more
+    module _ (inside : c .at < length s) (room : k < mostPieces) {p : Piece} {n : Cursor} (f : pieceAt s ks c ≡ Found p n) where
+      one : Placed
+      one = record { piece = p; from = c .at; to = n .at }
+
+      taken : take (k + 1) (placed s ks) ≡ take k (placed s ks) ++ (one ∷ [])
+      unfolding one
+      taken = taken-next (w .reached) inside room f
+
+      before : k < length (placed s ks)
+      before = next-inside (w .reached) inside room f
+
+      one-text : textsTo s row ks (k + 1) ≡ textsTo s row ks k ++ (pieceText s row p ∷ [])
+      unfolding textsTo one
+      one-text = ap (textsOf s row) taken ∙ texts-one s row (take k (placed s ks)) one
+
+      largest-next : max m (argumentOf p) ≡ largestOf (take (k + 1) (placed s ks))
+      unfolding one
+      largest-next = ap (λ (j : ℕ). max j (argumentOf p)) (w .largest) ∙ sym (ap largestOf taken ∙ largest-one (take k (placed s ks)) one)
+
+      -- that is only read
+      pub laying-read : prints ≡ false → Laying s row ks prints d e (k + 1) n t (max m (argumentOf p)) out ends
+      laying-read off = record {
+        reached = reached-next (w .reached) inside room f;
+        largest = largest-next;
+        below = below-more k t (w .below);
+        printing = λ on. absurd (let z : _≡_ {A = ℕ} 0 1 = cc in omega arith);
+        as-long = w .as-long;
+        as-many = w .as-many;
       }
 
-  module _ (left : ℕ) (c : Cursor) (t : Tally) (out ends : List ℕ) (w : Laying s row ks d e left c t out ends) where
-    -- all pieces are laid
-    done : take (c .pieces) (placed s ks) ≡ placed s ks → (r : Outcome) → r ≡ outcomeOf t (c .pieces)
-        → (r ≡ unlessStopped (firstStop s row (placed s (kindsOf row))) (Accepted (length (printedText s row)) (c .pieces))) × Filled s row d e r out ends
-    unfolding printedText
-    done h r q =
-        let z : t ≡ tallyOf s row (placed s (kindsOf row)) = w .tally ∙ ap (tallyOf s row) h ∙ ap (λ (l : List ℕ). tallyOf s row (placed s l)) (passed .kinds) in
-        let o = q ∙ ap (λ (x : Tally). outcomeOf x (c .pieces)) z ∙ tally-end s row (c .pieces) in
-        (o, subst (λ (x : Outcome). Filled s row d e x out ends) (sym o) (filled (firstStop s row (placed s (kindsOf row))) refl))
-      where
-        filled : (x : Option Stop) → firstStop s row (placed s (kindsOf row)) ≡ x → Filled s row d e (unlessStopped x (Accepted (length (printedText s row)) (c .pieces))) out ends
-        filled none u = λ room.
-            let f = w .held room (ap (λ (l : List ℕ). firstStop s row (placed s l)) (passed .kinds) ∙ u) in
-            let n = all-texts s row ks d e (passed .kinds) room (c .pieces) h in
-            (f .bytes ∙ ap (λ (ts : List (List ℕ)). laid d (joined ts)) n, f .slots ∙ ap (λ (ts : List (List ℕ)). laid e (endsFrom 0 ts)) n)
-        filled (some x) u = tt
+      -- that is printed
+      module _ (passed : Passed s row ks) {r : Tally} {out′ ends′ : List ℕ} (a : Added s row p (c .at) k t out ends r out′ ends′) where
+        printing-next : Printing s row ks d e k t out ends → Printing s row ks d e (k + 1) r out′ ends′
+        unfolding one textsTo
+        printing-next g = record { tally = total; held = both-held }
+          where
+            total : r ≡ tallied s row (Length 0) (take (k + 1) (placed s ks))
+            total =
+                a .tally ∙ ap (counted s row p (c .at)) (g .tally)
+                ∙ sym (ap (tallied s row (Length 0)) taken ∙ tallied-one s row (Length 0) (take k (placed s ks)) one)
 
-    -- where reading ends, for the kinds of the row
-    as-ended : (x : Ended) → ended s ks ≡ x → measuredEnd s row (ended s (kindsOf row)) ≡ measuredEnd s row x
-    as-ended x q = ap (measuredEnd s row) (ap (ended s) (sym (passed .kinds)) ∙ q)
+            both-held : Room s row d e → firstStop s row (placed s ks) ≡ none → Held s row ks d e (k + 1) out′ ends′
+            both-held space u =
+                let h = g .held space u in
+                let ts = textsTo s row ks k in
+                let all = ap (λ (l : List (List ℕ)). length (joined l)) one-text in
+                let most = part-le s row ks (passed .kinds) (k + 1) in
+                let fit : length (joined ts) + length (pieceText s row p) ≤ length out =
+                omega (arith, joined-length ts (pieceText s row p), all, most, space .bytes, w .as-long) in
+                let count : length ts ≡ k = texts-length s row (take k (placed s ks)) ∙ length-take-le k (placed s ks) (omega (arith, before)) in
+                let slot : k < length e = omega (arith, before, space .slots, ap (λ (l : List ℕ). length (placed s l)) (passed .kinds)) in
+                let v : t ≡ Length (length (joined ts)) = g .tally ∙ tally-length s row k (placed s ks) u in
+                let x : r ≡ Length (length (joined (ts ++ (pieceText s row p ∷ [])))) = total ∙ tally-length s row (k + 1) (placed s ks) u ∙ ap Length all in
+                let y = text-behind ts (pieceText s row p) d out out′ (h .bytes) (a .bytes _ v fit) in
+                let z = end-behind ts (pieceText s row p) e ends k count slot (omega (arith, all, most, space .wide)) (h .slots) in
+                record {
+                  bytes = y ∙ ap (λ (l : List (List ℕ)). laid d (joined l)) (sym one-text);
+                  slots = a .slot ∙ ap (λ (q : Tally). withEnd k q ends) x ∙ z ∙ ap (λ (l : List (List ℕ)). laid e (endsFrom 0 l)) (sym one-text);
+                }
 
-    -- no step is left
-    pub laying-out : left ≡ 0 → Refused 13 (c .at) ≡ measuredEnd s row (ended s (kindsOf row))
-    unfolding measuredEnd
-    laying-out z = sym (as-ended _ (reached-out s ks left c (w .reached) z .0))
-
-    -- the format is refused, or ends
-    module _ (some-left : 0 < left) where
-      pub laying-refused : (number place : ℕ) → pieceAt s ks c ≡ R.Refused number place → Refused number place ≡ measuredEnd s row (ended s (kindsOf row))
-      unfolding measuredEnd
-      laying-refused number place f = sym (as-ended _ (reached-refused s ks left c (w .reached) some-left number place f .0))
-
-      pub laying-end : pieceAt s ks c ≡ R.End → (r : Outcome) → r ≡ outcomeOf t (c .pieces) → (r ≡ measuredEnd s row (ended s (kindsOf row))) × Filled s row d e r out ends
-      unfolding measuredEnd
-      laying-end f r q =
-          let g = reached-end s ks left c (w .reached) some-left f in
-          let o = done (g .1) r q in
-          (o .0 ∙ sym (as-ended _ (g .0)), o .1)
-
-  module _ (left : ℕ) (c : Cursor) (t : Tally) (out ends : List ℕ) (w : Laying s row ks d e left c t out ends) (some-left : 0 < left) (p : Piece) (n : Cursor) (f : pieceAt s ks c ≡ R.Found p n) where
-    next : drop (c .pieces) (placed s ks) ≡ record { piece = p; from = c .at; to = n .at } ∷ placedFrom (left - 1) s ks n
-    next = next-piece s ks left c (w .reached) some-left p n f
-
-    more : suc (c .pieces) ≡ n .pieces
-    more = omega (arith, advanced s ks c p n f .pieces)
-
-    -- one more
-    pub laying-next : (r : Tally) (out′ ends′ : List ℕ) → Added s row p c t out ends r out′ ends′ → length out′ ≡ length out → length ends′ ≡ length ends
-        → Laying s row ks d e (left - 1) n r out′ ends′
-    unfolding textsTo
-    laying-next r out′ ends′ a long many =
-        record {
-          reached = reached-next s ks left c (w .reached) some-left p n f;
-          tally = total;
-          below = subst (λ (k : ℕ). TallyBelow k r) (sym (advanced s ks c p n f .pieces)) (a .below);
-          held = both-held;
+        pub laying-printed : length out′ ≡ length out → length ends′ ≡ length ends
+            → Laying s row ks prints d e (k + 1) n r (max m (argumentOf p)) out′ ends′
+        laying-printed long many = record {
+          reached = reached-next (w .reached) inside room f;
+          largest = largest-next;
+          below = a .below;
+          printing = λ on. printing-next (w .printing on);
           as-long = long ∙ w .as-long;
           as-many = many ∙ w .as-many;
         }
-      where
-        total : r ≡ tallyOf s row (take (n .pieces) (placed s ks))
-        total =
-            a .tally ∙ ap (counted s row p (c .at)) (w .tally) ∙ counted-next s row (take (c .pieces) (placed s ks)) _
-            ∙ ap (tallyOf s row) (sym (ap (λ (k : ℕ). take k (placed s ks)) (sym more) ∙ next-taken (c .pieces) (placed s ks) _ _ next))
 
-        both-held : Room s row d e → firstStop s row (placed s ks) ≡ none → Held s row ks d e n out′ ends′
-        both-held room u =
-            let g = w .held room u in
-            let m = length (joined (textsTo s row ks (c .pieces))) in
-            let m′ = length (joined (textsTo s row ks (n .pieces))) in
-            let b = m + length (pieceText s row p) in
-            let l : b ≡ m′ = sym (length-more s row ks d e (passed .kinds) room (c .pieces) _ _ next) ∙ ap (λ (j : ℕ). length (joined (textsTo s row ks j))) more in
-            let v : t ≡ Length m = w .tally ∙ tally-length s row (c .pieces) (placed s ks) u in
-            let x : r ≡ Length m′ = total ∙ tally-length s row (n .pieces) (placed s ks) u in
-            let o = out-next s row ks d e (passed .kinds) room (c .pieces) _ _ next out out′ m (g .bytes) refl (a .bytes m v (omega (arith, w .as-long, bytes-fit s row ks d e (passed .kinds) room (c .pieces) _ _ next))) in
-            let y : m′ % 4294967296 ≡ b = mod-eq-of-lt (omega (arith, l, wide-fit s row ks d e (passed .kinds) room (c .pieces) _ _ next)) ∙ sym l in
-            let z : ends′ ≡ set ends (c .pieces) (m′ % 4294967296) = a .slot ∙ ap (λ (q : Tally). withEnd (c .pieces) q ends) x in
-            record {
-              bytes = o ∙ ap (λ (j : ℕ). laid d (joined (textsTo s row ks j))) more;
-              slots = z ∙ ends-next s row ks d e (passed .kinds) room (c .pieces) _ _ next ends (m′ % 4294967296) (g .slots) y ∙ ap (λ (j : ℕ). laid e (endsFrom 0 (textsTo s row ks j))) more;
-            }
+    -- behind the last byte
+    module _ (passed : prints ≡ true → Passed s row ks) (behind : length s ≤ c .at) where
+      all-held : Passed s row ks → Printing s row ks d e k t out ends → (x : Option Stop) → firstStop s row (placed s ks) ≡ x
+          → Filled s row d e (unlessStopped x (Accepted (length (joined (textsOf s row (placed s ks)))) k)) out ends
+      unfolding printedText
+      all-held ok g none u = λ space.
+          let h = g .held space u in
+          let n = all-texts s row ks (ok .kinds) k (all-taken (w .reached) behind) in
+          (h .bytes ∙ ap (λ (ts : List (List ℕ)). laid d (joined ts)) n, h .slots ∙ ap (λ (ts : List (List ℕ)). laid e (endsFrom 0 ts)) n)
+      all-held ok g (some x) u = tt
 
-  -- behind a glance: one more, or the same
-  module _ (left : ℕ) (c : Cursor) (t : Tally) (out ends : List ℕ) (w : Laying s row ks d e left c t out ends) (g : Glance) (out′ ends′ : List ℕ) (h : Glanced s row ks c t out ends g out′ ends′) where
-    pub glance-next : 0 < left → length out′ ≡ length out → length ends′ ≡ length ends → (r : Tally) (n : Cursor) → g ≡ G.Laid r n → Laying s row ks d e (left - 1) n r out′ ends′
-    glance-next some-left long many r n q =
-        let l : LaidPiece s row ks c t out ends r n out′ ends′ = subst (λ (x : Glance). Glanced s row ks c t out ends x out′ ends′) q h in
-        laying-next left c t out ends w some-left (l .piece) n (l .found) r out′ ends′ (l .added) long many
-
-    pub glance-other : g ≡ G.Other → Laying s row ks d e left c t out′ ends′
-    glance-other q =
-        let l : (out′ ≡ out) × (ends′ ≡ ends) = subst (λ (x : Glance). Glanced s row ks c t out ends x out′ ends′) q h in
-        subst (λ (x : List ℕ). Laying s row ks d e left c t x ends′) (sym (l .0)) (subst (λ (x : List ℕ). Laying s row ks d e left c t out x) (sym (l .1)) w)
+      pub walk-finished : Walk s row ks prints d e (record { end = Finished; tally = t; pieces = k; largest = m }) out ends
+      walk-finished =
+          let all = all-taken (w .reached) behind in
+          let total : prints ≡ true → t ≡ tallied s row (Length 0) (placed s ks) = λ on. w .printing on .tally ∙ ap (tallied s row (Length 0)) all in
+          record {
+            end = sym (reached-end (w .reached) behind);
+            pieces = λ _. all-counted (w .reached) behind;
+            largest = λ _. w .largest ∙ ap largestOf all;
+            tally = λ on _. total on;
+            filled = λ on.
+                subst (λ (x : Outcome). Filled s row d e x out ends)
+                (sym (ap (λ (x : Tally). outcomeOf Finished x k) (total on) ∙ tally-end s row (placed s ks) k))
+                (all-held (passed on) (w .printing on) (firstStop s row (placed s ks)) refl);
+          }

@@ -1,8 +1,9 @@
 pub mod Joined
-pub mod Reached
+mod Reached
 pub mod Tallies
 pub mod Accepted
-pub mod Behind
-pub mod Laying
-pub mod Alone
+mod Behind
+mod Laying
+mod Outcomes
 pub mod Demand
+mod Known

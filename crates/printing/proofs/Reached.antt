@@ -1,91 +1,123 @@
--- Where reading stands behind some pieces of a format: what is left of its pieces and of its steps. Assumes nothing.
+-- Where reading stands behind k pieces of a format: what is left of its pieces, and where it ends. Assumes nothing.
 use mathlib.Core.Path.{_≡_, refl, sym, ap, _∙_}
-use mathlib.Core.List.{List, [], _∷_}
-use Prim.Native.Nat.{ℕ, zero, suc, _+_, _-_, _≤_, _<_}
+use mathlib.Core.List.{List, [], _∷_, _++_}
+use Prim.Native.Nat.{ℕ, zero, suc, _+_, _-_, _≤_, _<_, max}
+use native.Mathlib.Nat.{max-comm}
 use native.Mathlib.Omega.{arith}
-use lib.ListN.{length, getD, take, drop}
-use borrow.Author.Tests.{le-ltb}
+use lib.Dec.{ltb}
+use lib.ListN.{length, getD, take, drop, length-drop}
+use borrow.Author.Tests.{ltb-true}
+use Rattle.writing.proofs.Choose.{by-test}
 use Rattle.parsing.specs.Pieces.{start, pieceAt}
-use Rattle.parsing.specs.Check.{afterStep, endFrom, ended}
-use Rattle.parsing.specs.Listed.{Placed, andRest, placedFrom, placed, PieceIn}
+use Rattle.parsing.specs.Check.{argumentOf, largestOf}
+use Rattle.parsing.specs.Covers.{PieceIn}
+use Rattle.parsing.specs.Listed.{mostPieces, Placed, andRest, placedFrom, placed, endFrom, ended}
 use Rattle.parsing.specs.declared.Piece.{Piece}
 use Rattle.parsing.specs.declared.Cursor.{Cursor}
 use Rattle.parsing.specs.declared.Step.{Step}
-use Rattle.parsing.specs.declared.Step.the-variants.{Found, Refused, End}
+use Rattle.parsing.specs.declared.Step.the-variants.{Found, Refused}
 use Rattle.parsing.specs.declared.Ended.the-variants.{Finished, Stopped}
-use Rattle.parsing.proofs.Runs.{end-more}
-use Rattle.parsing.proofs.Progress.{advanced}
 use Rattle.parsing.proofs.Sound.{sound}
-use Rattle.printing.proofs.Joined.{next-rest, none-left}
+use Rattle.parsing.proofs.Iteration.{placed-found, end-found, end-refused, end-many, placed-past, end-past}
+use Rattle.printing.proofs.Joined.{next-below, next-rest, next-taken, none-left}
 
-pub record Reached (s ks : List ℕ) (left : ℕ) (c : Cursor) : Type 0 where
-  pub few : c .count ≤ c .pieces
-  pub rest : drop (c .pieces) (placed s ks) ≡ placedFrom left s ks c
-  pub end : endFrom left s ks c ≡ ended s ks
+pub record Reached (s ks : List ℕ) (k : ℕ) (c : Cursor) : Type 0 where
+  few : k ≤ mostPieces
+  inside : k ≤ length (placed s ks)
+  rest : drop k (placed s ks) ≡ placedFrom (mostPieces - k) (pieceAt s ks) (length s) c
+  end : endFrom (mostPieces - k) (pieceAt s ks) (length s) c ≡ ended s ks
 
--- the steps that are left
-placed-more : (n : ℕ) (s ks : List ℕ) (c : Cursor) → 0 < n → placedFrom n s ks c ≡ andRest (pieceAt s ks c) c (placedFrom (n - 1) s ks)
-unfolding placedFrom
-placed-more zero s ks c h = absurd (omega arith)
-placed-more (suc n) s ks c h = let e : suc n - 1 ≡ n = omega arith in rw e
+pub reached-start : {s ks : List ℕ} {c : Cursor} → c ≡ start → Reached s ks 0 c
+unfolding ended placed
+reached-start e = rw e (record { few = omega arith; inside = omega arith; rest = refl; end = refl })
 
-module _ (s ks : List ℕ) where
-  pub reached-start : (c : Cursor) → c ≡ start → Reached s ks 513 c
-  unfolding ended placed
-  reached-start c e = rw e (record { few = omega arith; rest = refl; end = refl })
+module _ {s ks : List ℕ} {k : ℕ} {c : Cursor} (at : Reached s ks k c) where
+  -- a piece begins
+  module _ (inside : c .at < length s) where
+    -- and is one too many
+    pub reached-full : mostPieces ≤ k → ended s ks ≡ Stopped 13 (c .at)
+    reached-full h =
+        let z : mostPieces - k ≡ 0 = omega arith in
+        sym (at .end) ∙ ap (λ (n : ℕ). endFrom n (pieceAt s ks) (length s) c) z ∙ end-many (pieceAt s ks) (length s) c inside
 
-  module _ (left : ℕ) (c : Cursor) (at : Reached s ks left c) (some : 0 < left) where
-    -- what the next step makes of the pieces and the end that are left
-    pieces-are : (t : Step) → pieceAt s ks c ≡ t → drop (c .pieces) (placed s ks) ≡ andRest t c (placedFrom (left - 1) s ks)
-    pieces-are t e = at .rest ∙ placed-more left s ks c some ∙ ap (λ (x : Step). andRest x c (placedFrom (left - 1) s ks)) e
+    module _ (room : k < mostPieces) where
+      left : mostPieces - k ≡ suc (mostPieces - (k + 1))
+      left = omega arith
 
-    end-is : (t : Step) → pieceAt s ks c ≡ t → afterStep t c (endFrom (left - 1) s ks) ≡ ended s ks
-    end-is t e = sym (end-more left s ks c some ∙ ap (λ (x : Step). afterStep x c (endFrom (left - 1) s ks)) e) ∙ at .end
+      end-left : endFrom (suc (mostPieces - (k + 1))) (pieceAt s ks) (length s) c ≡ ended s ks
+      end-left = sym (ap (λ (n : ℕ). endFrom n (pieceAt s ks) (length s) c) left) ∙ at .end
 
-    pub next-piece : (p : Piece) (n : Cursor) → pieceAt s ks c ≡ Found p n
-        → drop (c .pieces) (placed s ks) ≡ record { piece = p; from = c .at; to = n .at } ∷ placedFrom (left - 1) s ks n
-    next-piece p n e = pieces-are (Found p n) e
+      pub reached-refused : {number : ℕ} → pieceAt s ks c ≡ Refused number → ended s ks ≡ Stopped number (c .at)
+      reached-refused {number} e = sym end-left ∙ end-refused (pieceAt s ks) (length s) c inside (mostPieces - (k + 1)) number e
 
-    pub reached-next : (p : Piece) (n : Cursor) → pieceAt s ks c ≡ Found p n → Reached s ks (left - 1) n
-    reached-next p n e =
-        let a = advanced s ks c p n e in
-        let q : n .pieces ≡ suc (c .pieces) = omega (arith, a .pieces) in
-        record {
-          few = omega (arith, a .pieces, a .count, at .few);
-          rest = ap (λ (k : ℕ). drop k (placed s ks)) q ∙ next-rest (c .pieces) (placed s ks) _ _ (next-piece p n e);
-          end = end-is (Found p n) e;
+      module _ {p : Piece} {n : Cursor} (e : pieceAt s ks c ≡ Found p n) where
+        next-piece : drop k (placed s ks)
+            ≡ record { piece = p; from = c .at; to = n .at } ∷ placedFrom (mostPieces - (k + 1)) (pieceAt s ks) (length s) n
+        next-piece =
+            at .rest
+            ∙ ap (λ (m : ℕ). placedFrom m (pieceAt s ks) (length s) c) left
+            ∙ placed-found (pieceAt s ks) (length s) c inside (mostPieces - (k + 1)) p n e
+
+        one-more : k + 1 ≡ suc k
+        one-more = omega arith
+
+        pub next-inside : k < length (placed s ks)
+        next-inside = next-below k (placed s ks) _ _ next-piece
+
+        pub taken-next : take (k + 1) (placed s ks) ≡ take k (placed s ks) ++ (record { piece = p; from = c .at; to = n .at } ∷ [])
+        taken-next = ap (λ (j : ℕ). take j (placed s ks)) one-more ∙ next-taken k (placed s ks) _ _ next-piece
+
+        pub reached-next : Reached s ks (k + 1) n
+        reached-next = record {
+          few = omega arith;
+          inside = omega (arith, next-inside);
+          rest = ap (λ (j : ℕ). drop j (placed s ks)) one-more ∙ next-rest k (placed s ks) _ _ next-piece;
+          end = sym (end-found (pieceAt s ks) (length s) c inside (mostPieces - (k + 1)) p n e) ∙ end-left;
         }
 
-    pub reached-refused : (number place : ℕ) → pieceAt s ks c ≡ Refused number place → (ended s ks ≡ Stopped number place) × (take (c .pieces) (placed s ks) ≡ placed s ks)
-    reached-refused number place e = (sym (end-is (Refused number place) e), none-left (c .pieces) (placed s ks) (pieces-are (Refused number place) e))
-
-    pub reached-end : pieceAt s ks c ≡ End → (ended s ks ≡ Finished c) × (take (c .pieces) (placed s ks) ≡ placed s ks)
-    reached-end e = (sym (end-is End e), none-left (c .pieces) (placed s ks) (pieces-are End e))
-
-  -- no step is left
-  pub reached-out : (left : ℕ) (c : Cursor) → Reached s ks left c → left ≡ 0 → (ended s ks ≡ Stopped 13 (c .at)) × (take (c .pieces) (placed s ks) ≡ placed s ks)
-  unfolding endFrom placedFrom
-  reached-out left c at e =
-      (sym (at .end) ∙ ap (λ (n : ℕ). endFrom n s ks c) e, none-left (c .pieces) (placed s ks) (at .rest ∙ ap (λ (n : ℕ). placedFrom n s ks c) e))
-
   -- behind the format's last byte
-  pub past-end : (c : Cursor) → length s ≤ c .at → pieceAt s ks c ≡ End
-  unfolding pieceAt
-  past-end c h = simp (le-ltb (c .at) (length s) h)
+  module _ (behind : length s ≤ c .at) where
+    pub reached-end : ended s ks ≡ Finished
+    reached-end = sym (at .end) ∙ end-past (pieceAt s ks) (length s) (mostPieces - k) c behind
 
-  -- every piece that is listed lies inside the format, with an argument that there is
-  inside-from : (n : ℕ) (c : Cursor) (i : ℕ) (d : Placed) → i < length (placedFrom n s ks c) → PieceIn s ks (getD (placedFrom n s ks c) i d .piece)
+    all-gone : drop k (placed s ks) ≡ []
+    all-gone = at .rest ∙ placed-past (pieceAt s ks) (length s) (mostPieces - k) c behind
+
+    pub all-taken : take k (placed s ks) ≡ placed s ks
+    all-taken = none-left k (placed s ks) all-gone
+
+    pub all-counted : k ≡ length (placed s ks)
+    all-counted =
+        let z : length (placed s ks) - k ≡ 0 = sym (length-drop k (placed s ks)) ∙ ap length all-gone in
+        omega (arith, at .inside)
+
+-- every piece that is listed lies inside the format, with an argument that there is
+module _ (s ks : List ℕ) where
+  abbrev AllIn : Placed → List Placed → Type 0
+  AllIn d l = (i : ℕ) → i < length l → PieceIn s ks (getD l i d .piece)
+
+  inside-from : (n : ℕ) (c : Cursor) (d : Placed) → AllIn d (placedFrom n (pieceAt s ks) (length s) c)
   unfolding placedFrom
-  inside-from zero c i d h = absurd (omega arith)
-  inside-from (suc n) c i d h = go (pieceAt s ks c) refl (λ m j. inside-from n m j d) i h
+  inside-from zero c d = λ i h. absurd (omega arith)
+  inside-from (suc n) c d =
+      by-test (AllIn d) (ltb (c .at) (length s)) _ _
+      (λ h. go (pieceAt s ks c) refl (ltb-true (c .at) (length s) h) (λ m. inside-from n m d)) (λ _ i h. absurd (omega arith))
     where
-      go : (t : Step) → pieceAt s ks c ≡ t → ((m : Cursor) (j : ℕ) → j < length (placedFrom n s ks m) → PieceIn s ks (getD (placedFrom n s ks m) j d .piece))
-          → (i : ℕ) → i < length (andRest t c (λ m. placedFrom n s ks m)) → PieceIn s ks (getD (andRest t c (λ m. placedFrom n s ks m)) i d .piece)
-      go (Found p m) e ih zero h = sound s ks c p m e
-      go (Found p m) e ih (suc i) h = ih m i (omega arith)
-      go (Refused number place) e ih i h = absurd (omega arith)
-      go End e ih i h = absurd (omega arith)
+      go : (t : Step) → pieceAt s ks c ≡ t → c .at < length s → ((m : Cursor) → AllIn d (placedFrom n (pieceAt s ks) (length s) m))
+          → AllIn d (andRest t c (λ m. placedFrom n (pieceAt s ks) (length s) m))
+      go (Found p m) e h ih zero k = sound s ks c p m h e
+      go (Found p m) e h ih (suc i) k = ih m i (omega arith)
+      go (Refused number) e h ih i k = absurd (omega arith)
 
   pub all-inside : (i : ℕ) (d : Placed) → i < length (placed s ks) → PieceIn s ks (getD (placed s ks) i d .piece)
   unfolding placed
-  all-inside i d h = inside-from 513 start i d h
+  all-inside i d h = inside-from mostPieces start d i h
+
+-- the largest argument of some pieces and one more
+pub largest-one : (ps : List Placed) (p : Placed) → largestOf (ps ++ (p ∷ [])) ≡ max (largestOf ps) (argumentOf (p .piece))
+unfolding largestOf
+largest-one [] p = max-comm (argumentOf (p .piece)) 0
+largest-one (q ∷ ps) p = ap (max (argumentOf (q .piece))) (largest-one ps p) ∙ regrouped (argumentOf (q .piece)) (largestOf ps) (argumentOf (p .piece))
+  where
+    regrouped : (a b c : ℕ) → max a (max b c) ≡ max (max a b) c
+    regrouped a b c = omega arith

@@ -1,11 +1,11 @@
 -- The parts of every finite value's text, read back, denote the value as demand 3 says. Assumes nothing.
 use mathlib.Core.Path.{_≡_, refl, sym, ap, _∙_}
 use mathlib.Core.Bool.{Bool, true, false, _||_}
-use Prim.Native.Nat.{ℕ, zero, suc, _+_, _-_, _*_, _/_, _%_, _^_, _≤_, _<_, max}
-use native.Mathlib.Nat.{mul-one, zero-mul, zero-add, add-zero, mul-pos}
+use Prim.Native.Nat.{ℕ, _+_, _-_, _*_, _^_, _≤_, _<_, max}
+use native.Mathlib.Nat.{mul-one, zero-mul, zero-add, mul-pos}
 use native.Mathlib.Decide.{decLt}
 use native.Mathlib.Omega.{arith}
-use lib.Dec.{eqb, leb, lit<, lit≤}
+use lib.Dec.{eqb, lit≤}
 use lib.Pow.{pow-pos}
 use borrow.Author.Tests.{lt-ltb, le-ltb, le-leb, lt-leb, eq-eqb, ne-eqb}
 use Rattle.numerals.specs.declared.NumericParam.{NumericParam}
@@ -26,10 +26,10 @@ use Rattle.reading.proofs.Nearest.{nearest-of}
 exactly : (b : ℕ) (h : HexFloat) (S q : ℕ) → units b ≡ S * 2 ^ q → q + (h .bias + 52) ≡ h .exponent + 1074 → wholeOf h * 2 ^ 52 ≡ S * 16 ^ placesOf h
     → Exactly b (scaledOf (negative b) h)
 exactly b h S q u e w =
-    record {
-      sign = refl;
-      number = whole-is-value b (wholeOf h) (placesOf h) (h .exponent) (h .bias) (from-significand (wholeOf h) S (placesOf h) q (units b) (h .exponent) (h .bias) u e w);
-    }
+    let m = wholeOf h in
+    let f = placesOf h in
+    let same = from-significand m S f q (units b) (h .exponent) (h .bias) u e w in
+    record { sign = refl; number = whole-is-value b m f (h .exponent) (h .bias) same }
 
 -- a normal value's units, and that they are not 0
 normal-units : (b : ℕ) → 1 ≤ exponentField b → units b ≡ (2 ^ 52 + fractionField b) * 2 ^ (exponentField b - 1)
@@ -37,7 +37,10 @@ unfolding units significand
 normal-units b h = simp (ne-eqb (exponentField b) 0 (λ e. omega arith))
 
 normal-not-zero : (b : ℕ) → 1 ≤ exponentField b → units b ≡ 0 → ⊥
-normal-not-zero b h e = omega (arith, normal-units b h, mul-pos {m = 2 ^ 52 + fractionField b} {n = 2 ^ (exponentField b - 1)} (omega arith) (pow-pos (exponentField b - 1)))
+normal-not-zero b h e =
+    let S = 2 ^ 52 + fractionField b in
+    let k = exponentField b - 1 in
+    omega (arith, normal-units b h, mul-pos {m = S} {n = 2 ^ k} (omega arith) (pow-pos k))
 
 -- which of the two claims stands, for a value that is not 0
 exact-claim : (b p : ℕ) (r : Scaled) → 13 ≤ p → Exactly b r → Denotes b (Literal p) r
@@ -59,11 +62,16 @@ normal-denotes b FromArgument h =
 normal-denotes b (Literal p) h =
     let f = fractionField b in
     let E = exponentField b in
+    let n = max p 1 in
     elim (decLt p 13) [
-      | yes k ↦ near-claim b p _ (normal-not-zero b h) k
-          (simp (lt-ltb (max p 1) 13 (omega arith)) (nearest-of b f E 0 (max p 1) (field-bounds b .1) h (lit≤ tt) (omega arith) (omega arith) (mul-one (units b) ∙ normal-units b h)))
-      | no n ↦ exact-claim b p _ (omega arith)
-          (simp (le-ltb (max p 1) 13 (omega arith)) (exactly b (normalForm f 13 (max p 1 - 13) E 1023) (2 ^ 52 + f) (E - 1) (normal-units b h) (omega arith) (whole-long f E 1023 (max p 1) (omega arith))))
+      | yes k ↦
+          let value = mul-one (units b) ∙ normal-units b h in
+          near-claim b p _ (normal-not-zero b h) k
+          (simp (lt-ltb n 13 (omega arith)) (nearest-of b f E 0 n (field-bounds b .1) h (lit≤ tt) (omega arith) (omega arith) value))
+      | no k ↦
+          let whole = whole-long f E 1023 n (omega arith) in
+          exact-claim b p _ (omega arith)
+          (simp (le-ltb n 13 (omega arith)) (exactly b (normalForm f 13 (n - 13) E 1023) (2 ^ 52 + f) (E - 1) (normal-units b h) (omega arith) whole))
     ]
 
 -- a value without a leading 1
@@ -71,14 +79,17 @@ module _ (b : ℕ) (z : exponentField b ≡ 0) where
   unscaled : Exactly b (scaledOf (negative b) (subnormalForm (fractionField b)))
   unscaled =
       let f = fractionField b in
-      exactly b (subnormalForm f) f 0 (units-zero b z ∙ sym (mul-one f)) refl (ap (λ (n : ℕ). n * 2 ^ 52) (mul-one (0 * 16 ^ 13 + f) ∙ ap (λ (n : ℕ). n + f) (zero-mul (16 ^ 13)) ∙ zero-add f))
+      let whole : wholeOf (subnormalForm f) ≡ f = mul-one (0 * 16 ^ 13 + f) ∙ ap (λ (n : ℕ). n + f) (zero-mul (16 ^ 13)) ∙ zero-add f in
+      exactly b (subnormalForm f) f 0 (units-zero b z ∙ sym (mul-one f)) refl (ap (λ (n : ℕ). n * 2 ^ 52) whole)
 
   zero-exact : fractionField b ≡ 0 → Exactly b (scaledOf (negative b) zeroForm)
   zero-exact e = exactly b zeroForm 0 1022 (units-zero b z ∙ e ∙ sym (zero-mul (2 ^ 1022))) refl refl
 
   -- the product with 2 ^ 54 is exact, and normal
   scaled-denotes : (p : ℕ) → 1 ≤ fractionField b → p < 13
-      → Nearest b (max p 1) (scaledOf (negative b) (normalOf (Literal p) (fractionField (scaledBits (fractionField b))) (exponentField (scaledBits (fractionField b))) (1023 + 54)))
+      → Nearest b (max p 1)
+      (scaledOf (negative b)
+      (normalOf (Literal p) (fractionField (scaledBits (fractionField b))) (exponentField (scaledBits (fractionField b))) (1023 + 54)))
   unfolding rounded
   scaled-denotes p n k =
       let f = fractionField b in

@@ -1,9 +1,10 @@
 -- Digits that were written are read. Assumes nothing.
 use mathlib.Core.Path.{_≡_, refl}
-use mathlib.Core.Bool.{Bool, true, false}
-use mathlib.Core.List.{List, [], _∷_, _++_}
-use mathlib.Core.Option.{Option, none, some}
-use Prim.Native.Nat.{ℕ, zero, suc, _+_, _-_, _*_, _≤_, _<_}
+use mathlib.Core.Bool.{false}
+use mathlib.Core.List.{List, [], _∷_}
+use mathlib.Core.Option.{some}
+use Prim.Native.Nat.{ℕ, _+_, _-_, _*_, _≤_, _<_}
+use Prim.Native.Char.{code}
 use native.Mathlib.Decide.{decLt}
 use native.Mathlib.Omega.{arith}
 use lib.ListN.{length}
@@ -11,18 +12,18 @@ use lib.Dec.{eqb}
 use borrow.Author.Tests.{lt-ltb, le-ltb, le-leb, lt-leb, ne-eqb}
 use Rattle.numerals.specs.Digits.{letterOf, lettersOf, numberFrom, numberOf}
 use Rattle.numerals.proofs.Digits.{Below}
-use Rattle.reading.specs.Reading.{_andThen_, digitOf, digitsFrom, wholeNumber}
+use Rattle.reading.specs.Reading.{digitOf, digitsFrom, wholeNumber}
 
 -- a digit's letter lies between `0` and `f`
-letter-range : (d : ℕ) → d < 16 → (48 ≤ letterOf false d) × (letterOf false d ≤ 102)
+letter-range : (d : ℕ) → d < 16 → (code "0" ≤ letterOf false d) × (letterOf false d ≤ code "f")
 unfolding letterOf
 letter-range d h = elim (decLt d 10) [ yes p ↦ simp (lt-ltb d 10 p) (omega arith, omega arith) | no n ↦ letter (omega arith) ]
   where
-    letter : 10 ≤ d → (48 ≤ letterOf false d) × (letterOf false d ≤ 102)
+    letter : 10 ≤ d → (code "0" ≤ letterOf false d) × (letterOf false d ≤ code "f")
     letter k = simp (le-ltb d 10 k) (omega arith, omega arith)
 
 -- so it is none of the bytes outside, as marks, the point, `x` and `p`
-pub letter-is-not : (c d : ℕ) → d < 16 → ((x : ℕ) → 48 ≤ x → x ≤ 102 → x ≡ c → ⊥) → eqb (letterOf false d) c ≡ false
+pub letter-is-not : (c d : ℕ) → d < 16 → ((x : ℕ) → code "0" ≤ x → x ≤ code "f" → x ≡ c → ⊥) → eqb (letterOf false d) c ≡ false
 letter-is-not c d h out = let r = letter-range d h in ne-eqb (letterOf false d) c (out (letterOf false d) (r .0) (r .1))
 
 digit-read : (base d : ℕ) → base ≤ 16 → d < base → digitOf base (letterOf false d) ≡ some d
@@ -31,13 +32,23 @@ digit-read base d h k = elim (decLt d 10) [ yes p ↦ number p | no n ↦ letter
   where
     number : d < 10 → digitOf base (letterOf false d) ≡ some d
     number p =
-        let e : 48 + d - 48 ≡ d = omega arith in
-        simp (lt-ltb d 10 p, le-leb 48 (48 + d) (omega arith), le-leb (48 + d) 57 (omega arith), e, lt-ltb d base k)
+        let x = code "0" + d in
+        let e : x - code "0" ≡ d = omega arith in
+        simp (lt-ltb d 10 p, le-leb (code "0") x (omega arith), le-leb x (code "9") (omega arith), e, lt-ltb d base k)
 
     letter : 10 ≤ d → digitOf base (letterOf false d) ≡ some d
     letter p =
-        let e : 87 + d - 87 ≡ d = omega arith in
-        simp (le-ltb d 10 p, le-leb 48 (87 + d) (omega arith), lt-leb (87 + d) 57 (omega arith), le-leb 97 (87 + d) (omega arith), le-leb (87 + d) 102 (omega arith), e, lt-ltb d base k)
+        let x = code "a" + (d - 10) in
+        let e : x - code "a" + 10 ≡ d = omega arith in
+        simp (
+          le-ltb d 10 p,
+          le-leb (code "0") x (omega arith),
+          lt-leb x (code "9") (omega arith),
+          le-leb (code "a") x (omega arith),
+          le-leb x (code "f") (omega arith),
+          e,
+          lt-ltb d base k,
+        )
 
 pub digits-read : (base v : ℕ) (ds : List ℕ) → base ≤ 16 → Below base ds → digitsFrom base v (lettersOf false ds) ≡ some (numberFrom base v ds)
 unfolding digitsFrom lettersOf numberFrom

@@ -2,31 +2,32 @@
 use mathlib.Core.Path.{_≡_, refl, sym, ap, _∙_}
 use mathlib.Core.Bool.{Bool, true, false}
 use mathlib.Core.List.{List, [], _∷_, _++_, append-assoc, append-nil}
-use mathlib.Core.Option.{Option, none, some}
-use Prim.Native.Nat.{ℕ, zero, suc, _+_, _-_, _*_, _^_, _≤_, _<_}
+use mathlib.Core.Option.{none, some}
+use Prim.Native.Nat.{ℕ, suc, _+_, _-_, _*_, _^_, _≤_, _<_}
+use Prim.Native.Char.{code}
 use native.Mathlib.Nat.{mod-eq-of-lt, zero-mul, zero-add}
 use native.Mathlib.Decide.{decLt}
 use native.Mathlib.Omega.{arith}
 use lib.Dec.{ltb, eqb, lit<, lit≤}
-use lib.IntN.{ℤ, pos, negsuc, negℤ, subℕ}
+use lib.IntN.{ℤ, pos, negℤ, subℕ}
 use lib.ListN.{length, replicate, length-append, length-replicate}
 use borrow.Author.Tests.{lt-ltb, le-ltb}
 use Rattle.writing.specs.Choose.{choose}
-use Rattle.numerals.specs.Digits.{digits, digitsIn, letterOf, lettersOf, numberFrom, numberOf, numeral, decimal}
-use Rattle.numerals.specs.Integers.{signed}
-use Rattle.numerals.proofs.Digits.{Below, below-append, below-digitsIn, below-zeros, letters-append, length-letters, length-digitsIn, number-append, number-zeros, number-digitsIn}
+use Rattle.numerals.specs.Digits.{digits, digitsIn, letterOf, lettersOf, numberFrom, numberOf, decimal}
+use Rattle.numerals.proofs.Digits.{Below, below-append, below-digitsIn, below-zeros, letters-append}
+use Rattle.numerals.proofs.Digits.{length-letters, length-digitsIn, number-append, number-zeros, number-digitsIn}
 use Rattle.layout.specs.Frame.{byteText, closingByte, isMinus, marks}
 use Rattle.layout.specs.declared.Mark.{Mark}
 use Rattle.layout.specs.declared.Mark.the-variants.{NoMark, Plus, Space, Minus, Brackets}
 use Rattle.layout.specs.declared.Prefix.{Prefix}
 use Rattle.layout.specs.declared.Prefix.the-variants.{HexLower, HexUpper}
-use Rattle.binary64.specs.HexFloat.{leadingDigit, exponentLetter, exponentText, hexFloatText}
+use Rattle.binary64.specs.HexFloat.{leadingDigit, exponentText, hexFloatText}
 use Rattle.binary64.specs.declared.HexFloat.{HexFloat}
 use Rattle.reading.specs.Kept.{kept}
-use Rattle.reading.specs.Reading.{_andThen_, digitsFrom, wholeNumber, withMinus, afterPrefix, Halves, cutAt, Scaled, readMagnitude, readFloat}
+use Rattle.reading.specs.Reading.{withMinus, afterPrefix, cutAt, Scaled, readMagnitude, readFloat}
 use Rattle.reading.proofs.Kept.{kept-append, kept-letters, zero-letters}
 use Rattle.reading.proofs.Digits.{letter-is-not, digits-read, whole-read}
-use Rattle.reading.proofs.Integers.{spaced, kept-spaced, Digits, digits-of, unmarked, after-minus, kept-numeral}
+use Rattle.reading.proofs.Integers.{spaced, kept-spaced, digits-of, unmarked, after-minus, kept-numeral}
 
 -- The number that the parts of a text make.
 abbrev pub scaledOf : Bool → HexFloat → Scaled
@@ -44,7 +45,7 @@ hexPrefix false = HexLower
 hexPrefix true = HexUpper
 
 -- digits are cut off at a byte that is no digit
-cut-letters : (b : ℕ) (ds rest : List ℕ) → ((x : ℕ) → 48 ≤ x → x ≤ 102 → x ≡ b → ⊥) → eqb b b ≡ true → Below 16 ds
+cut-letters : (b : ℕ) (ds rest : List ℕ) → ((x : ℕ) → code "0" ≤ x → x ≤ code "f" → x ≡ b → ⊥) → eqb b b ≡ true → Below 16 ds
     → cutAt b (lettersOf false ds ++ (b ∷ rest)) ≡ some (record { front = lettersOf false ds; back = rest })
 unfolding cutAt lettersOf
 cut-letters b [] rest out same l = simp same
@@ -52,13 +53,13 @@ cut-letters b (d ∷ ds) rest out same l = simp (letter-is-not b d (l .0) out, c
 
 -- W before the point, F behind it, X behind `p`
 read-parts : (s : Bool) (W F X : List ℕ) (e : ℤ) → Below 16 W → Below 16 F → 0 < length W → 0 < length F → withMinus X ≡ some e
-    → readMagnitude s (48 ∷ 120 ∷ (lettersOf false W ++ (46 ∷ (lettersOf false F ++ (112 ∷ X)))))
+    → readMagnitude s (code "0" ∷ code "x" ∷ (lettersOf false W ++ (code "." ∷ (lettersOf false F ++ (code "p" ∷ X)))))
     ≡ some (record { negative = s; m = numberFrom 16 (numberOf 16 W) F; f = length F; e = e })
 unfolding readMagnitude afterPrefix
 read-parts s W F X e w f nw nf x =
     simp (
-      cut-letters 46 W (lettersOf false F ++ (112 ∷ X)) (λ x p q e. omega arith) refl w,
-      cut-letters 112 F X (λ x p q e. omega arith) refl f,
+      cut-letters (code ".") W (lettersOf false F ++ (code "p" ∷ X)) (λ x p q e. omega arith) refl w,
+      cut-letters (code "p") F X (λ x p q e. omega arith) refl f,
       whole-read 16 W (lit≤ tt) w nw,
       whole-read 16 F (lit≤ tt) f nf,
       digits-read 16 (numberOf 16 W) F (lit≤ tt) f,
@@ -68,18 +69,18 @@ read-parts s W F X e w f nw nf x =
 
 -- the exponent: its letter counts as `p`, and behind it stands the number
 abbrev exponentDigits : Bool → ℕ → ℕ → List ℕ
-exponentDigits true e bias = 45 ∷ lettersOf false (digits 10 (bias - e))
+exponentDigits true e bias = code "-" ∷ lettersOf false (digits 10 (bias - e))
 exponentDigits false e bias = lettersOf false (digits 10 (e - bias))
 
-number : (t : Bool) (e bias : ℕ) → kept (choose t (λ _. 45 ∷ decimal (bias - e)) (λ _. decimal (e - bias))) ≡ exponentDigits t e bias
+number : (t : Bool) (e bias : ℕ) → kept (choose t (λ _. code "-" ∷ decimal (bias - e)) (λ _. decimal (e - bias))) ≡ exponentDigits t e bias
 unfolding kept
-number true e bias = ap (λ (l : List ℕ). 45 ∷ l) (kept-numeral false 10 (bias - e) (lit≤ tt) (lit≤ tt))
+number true e bias = ap (λ (l : List ℕ). code "-" ∷ l) (kept-numeral false 10 (bias - e) (lit≤ tt) (lit≤ tt))
 number false e bias = kept-numeral false 10 (e - bias) (lit≤ tt) (lit≤ tt)
 
-kept-exponent : (u : Bool) (e bias : ℕ) → kept (exponentText u e bias) ≡ 112 ∷ exponentDigits (ltb e bias) e bias
+kept-exponent : (u : Bool) (e bias : ℕ) → kept (exponentText u e bias) ≡ code "p" ∷ exponentDigits (ltb e bias) e bias
 unfolding kept exponentText
-kept-exponent false e bias = ap (λ (l : List ℕ). 112 ∷ l) (number (ltb e bias) e bias)
-kept-exponent true e bias = ap (λ (l : List ℕ). 112 ∷ l) (number (ltb e bias) e bias)
+kept-exponent false e bias = ap (λ (l : List ℕ). code "p" ∷ l) (number (ltb e bias) e bias)
+kept-exponent true e bias = ap (λ (l : List ℕ). code "p" ∷ l) (number (ltb e bias) e bias)
 
 exponent-read : (e bias : ℕ) → withMinus (exponentDigits (ltb e bias) e bias) ≡ some (subℕ e bias)
 exponent-read e bias = elim (decLt e bias) [ yes p ↦ below p | no n ↦ above (omega arith) ]
@@ -100,23 +101,27 @@ abbrev fractionDigits : HexFloat → List ℕ
 fractionDigits h = digitsIn 16 (h .digits) (h .fraction) ++ replicate (h .zeros) 0
 
 below-fraction : (h : HexFloat) → Below 16 (fractionDigits h)
-below-fraction h = below-append 16 (digitsIn 16 (h .digits) (h .fraction)) (replicate (h .zeros) 0) (below-digitsIn 16 (h .digits) (h .fraction) (lit< tt)) (below-zeros 16 (h .zeros) (lit< tt))
+below-fraction h =
+    below-append 16 (digitsIn 16 (h .digits) (h .fraction)) (replicate (h .zeros) 0)
+    (below-digitsIn 16 (h .digits) (h .fraction) (lit< tt))
+    (below-zeros 16 (h .zeros) (lit< tt))
 
 -- the text of a value: what counts of it
-leading-kept : (t : Bool) (rest : List ℕ) → kept ((48 + leadingDigit t) ∷ 46 ∷ rest) ≡ lettersOf false (leadingDigit t ∷ []) ++ (46 ∷ kept rest)
+leading-kept : (t : Bool) (rest : List ℕ)
+    → kept ((code "0" + leadingDigit t) ∷ code "." ∷ rest) ≡ lettersOf false (leadingDigit t ∷ []) ++ (code "." ∷ kept rest)
 unfolding kept lettersOf letterOf
 leading-kept false rest = refl
 leading-kept true rest = refl
 
 fraction-kept : (u : Bool) (h : HexFloat) (rest : List ℕ)
-    → kept (lettersOf u (digitsIn 16 (h .digits) (h .fraction)) ++ (replicate (h .zeros) 48 ++ rest)) ≡ lettersOf false (fractionDigits h) ++ kept rest
+    → kept (lettersOf u (digitsIn 16 (h .digits) (h .fraction)) ++ (replicate (h .zeros) (code "0") ++ rest)) ≡ lettersOf false (fractionDigits h) ++ kept rest
 fraction-kept u h rest =
     let ds = digitsIn 16 (h .digits) (h .fraction) in
     let zs : List ℕ = replicate (h .zeros) 0 in
-    kept-append (lettersOf u ds) (replicate (h .zeros) 48 ++ rest)
-    ∙ ap (λ (l : List ℕ). l ++ kept (replicate (h .zeros) 48 ++ rest)) (kept-letters u ds (below-digitsIn 16 (h .digits) (h .fraction) (lit< tt)))
+    kept-append (lettersOf u ds) (replicate (h .zeros) (code "0") ++ rest)
+    ∙ ap (λ (l : List ℕ). l ++ kept (replicate (h .zeros) (code "0") ++ rest)) (kept-letters u ds (below-digitsIn 16 (h .digits) (h .fraction) (lit< tt)))
     ∙ ap (λ (l : List ℕ). lettersOf false ds ++ l)
-    (kept-append (replicate (h .zeros) 48) rest
+    (kept-append (replicate (h .zeros) (code "0")) rest
     ∙ ap (λ (l : List ℕ). kept l ++ kept rest) (zero-letters false (h .zeros))
     ∙ ap (λ (l : List ℕ). l ++ kept rest) (kept-letters false zs (below-zeros 16 (h .zeros) (lit< tt))))
     ∙ sym (append-assoc (lettersOf false ds) (lettersOf false zs) (kept rest))
@@ -124,14 +129,15 @@ fraction-kept u h rest =
 
 -- X is the exponent's number
 abbrev valueText : HexFloat → List ℕ → List ℕ
-valueText h X = lettersOf false (leadingDigit (h .leading) ∷ []) ++ (46 ∷ (lettersOf false (fractionDigits h) ++ (112 ∷ X)))
+valueText h X = lettersOf false (leadingDigit (h .leading) ∷ []) ++ (code "." ∷ (lettersOf false (fractionDigits h) ++ (code "p" ∷ X)))
 
 kept-value : (u : Bool) (h : HexFloat) → kept (hexFloatText u h) ≡ valueText h (exponentOf h)
 unfolding hexFloatText
 kept-value u h =
     leading-kept (h .leading) _
-    ∙ ap (λ (l : List ℕ). lettersOf false (leadingDigit (h .leading) ∷ []) ++ (46 ∷ l))
-    (fraction-kept u h (exponentText u (h .exponent) (h .bias)) ∙ ap (λ (l : List ℕ). lettersOf false (fractionDigits h) ++ l) (kept-exponent u (h .exponent) (h .bias)))
+    ∙ ap (λ (l : List ℕ). lettersOf false (leadingDigit (h .leading) ∷ []) ++ (code "." ∷ l))
+    (fraction-kept u h (exponentText u (h .exponent) (h .bias))
+    ∙ ap (λ (l : List ℕ). lettersOf false (fractionDigits h) ++ l) (kept-exponent u (h .exponent) (h .bias)))
 
 lead-below : (t : Bool) → leadingDigit t < 16
 lead-below false = lit< tt
@@ -144,23 +150,30 @@ number-is : (z : ℕ) (h : HexFloat) → h .fraction < 16 ^ h .digits
 unfolding numberOf numberFrom
 number-is z h k =
     let d = leadingDigit (h .leading) in
-    let w : numberFrom 16 0 (replicate z 0 ++ (d ∷ [])) ≡ d = number-append 16 0 (replicate z 0) (d ∷ []) ∙ ap (λ (v : ℕ). v * 16 + d) (number-zeros 16 0 z ∙ zero-mul (16 ^ z)) ∙ zero-add d in
+    let w : numberFrom 16 0 (replicate z 0 ++ (d ∷ [])) ≡ d =
+    number-append 16 0 (replicate z 0) (d ∷ []) ∙ ap (λ (v : ℕ). v * 16 + d) (number-zeros 16 0 z ∙ zero-mul (16 ^ z)) ∙ zero-add d in
     ap (λ (v : ℕ). numberFrom 16 v (fractionDigits h)) w
     ∙ number-append 16 d (digitsIn 16 (h .digits) (h .fraction)) (replicate (h .zeros) 0)
     ∙ number-zeros 16 _ (h .zeros)
-    ∙ ap (λ (v : ℕ). v * 16 ^ h .zeros) (number-digitsIn 16 d (h .digits) (h .fraction) (lit< tt) ∙ ap (λ (r : ℕ). d * 16 ^ h .digits + r) (mod-eq-of-lt k))
+    ∙ ap (λ (v : ℕ). v * 16 ^ h .zeros)
+    (number-digitsIn 16 d (h .digits) (h .fraction) (lit< tt) ∙ ap (λ (r : ℕ). d * 16 ^ h .digits + r) (mod-eq-of-lt k))
 
 -- What is read of the value's text behind a prefix and z zeros.
 magnitude-back : (s : Bool) (z : ℕ) (h : HexFloat) → 1 ≤ h .digits → h .fraction < 16 ^ h .digits
-    → readMagnitude s (48 ∷ 120 ∷ (lettersOf false (replicate z 0) ++ valueText h (exponentOf h))) ≡ some (scaledOf s h)
+    → readMagnitude s (code "0" ∷ code "x" ∷ (lettersOf false (replicate z 0) ++ valueText h (exponentOf h))) ≡ some (scaledOf s h)
 magnitude-back s z h one k =
-    let X = exponentOf h in
-    let W = replicate z 0 ++ (leadingDigit (h .leading) ∷ []) in
+    let d : List ℕ = leadingDigit (h .leading) ∷ [] in
+    let W = replicate z 0 ++ d in
     let F = fractionDigits h in
-    let w : Below 16 W = below-append 16 (replicate z 0) (leadingDigit (h .leading) ∷ []) (below-zeros 16 z (lit< tt)) (lead-below (h .leading), tt) in
+    let X = exponentOf h in
+    let point : List ℕ = code "." ∷ (lettersOf false F ++ (code "p" ∷ X)) in
+    let w : Below 16 W = below-append 16 (replicate z 0) d (below-zeros 16 z (lit< tt)) (lead-below (h .leading), tt) in
     let nw : 0 < length W = rw length-append (omega arith) in
-    let lf : length F ≡ h .digits + h .zeros = length-append (digitsIn 16 (h .digits) (h .fraction)) (replicate (h .zeros) 0) ∙ rw (length-digitsIn, length-replicate) in
-    ap (λ (l : List ℕ). readMagnitude s (48 ∷ 120 ∷ l)) (sym (append-assoc (lettersOf false (replicate z 0)) (lettersOf false (leadingDigit (h .leading) ∷ [])) _) ∙ ap (λ (l : List ℕ). l ++ (46 ∷ (lettersOf false F ++ (112 ∷ X)))) (sym (letters-append false (replicate z 0) (leadingDigit (h .leading) ∷ []))))
+    let lf : length F ≡ h .digits + h .zeros =
+    length-append (digitsIn 16 (h .digits) (h .fraction)) (replicate (h .zeros) 0) ∙ rw (length-digitsIn, length-replicate) in
+    ap (λ (l : List ℕ). readMagnitude s (code "0" ∷ code "x" ∷ l))
+    (sym (append-assoc (lettersOf false (replicate z 0)) (lettersOf false d) point)
+    ∙ ap (λ (l : List ℕ). l ++ point) (sym (letters-append false (replicate z 0) d)))
     ∙ read-parts s W F X (subℕ (h .exponent) (h .bias)) w (below-fraction h) nw (omega (arith, lf)) (exponent-read (h .exponent) (h .bias))
     ∙ simp (number-is z h k, lf)
 

@@ -1,19 +1,17 @@
 -- The parts of a value's hexadecimal text: at least one digit, no digit lost, and the whole number that they make. Assumes nothing.
-use mathlib.Core.Path.{_≡_, refl, sym, ap, _∙_}
-use mathlib.Core.Bool.{Bool, true, false}
+use mathlib.Core.Path.{_≡_, sym, ap, _∙_}
 use Prim.Native.Nat.{ℕ, zero, suc, _+_, _-_, _*_, _/_, _%_, _^_, _≤_, _<_, max}
-use native.Mathlib.Nat.{mul-assoc, mul-comm, mul-right-comm, mul-one, one-mul, zero-mul, zero-add, add-zero, add-mul, pow-suc, pow-zero, div-div-eq-div-mul, div-add-mod', div-one, div-lt-iff-lt-mul, mul-pos}
+use native.Mathlib.Nat.{mul-assoc, mul-comm, mul-one, one-mul, add-zero, add-mul, pow-suc, div-div-eq-div-mul, div-one, div-lt-iff-lt-mul, mul-pos}
 use native.Mathlib.Decide.{decLt}
 use native.Mathlib.Omega.{arith}
-use lib.Dec.{ltb, eqb, lit<, lit≤}
+use lib.Dec.{lit<, lit≤}
 use lib.Pow.{pow-add}
 use borrow.Author.Tests.{lt-ltb, le-ltb, eq-eqb, ne-eqb}
-use Rattle.writing.specs.Choose.{choose}
 use Rattle.numerals.specs.declared.NumericParam.{NumericParam}
 use Rattle.numerals.specs.declared.NumericParam.the-variants.{Literal, FromArgument}
 use Rattle.binary64.specs.Fields.{exponentField, fractionField, scaledBits}
 use Rattle.binary64.specs.Rounding.{nearestTo, keptDigits}
-use Rattle.binary64.specs.HexFloat.{leadingDigit, normalForm, subnormalForm, zeroForm, shortest, carried, rounded, normalOf, subnormalOf, hexFloatOf}
+use Rattle.binary64.specs.HexFloat.{leadingDigit, normalForm, subnormalForm, shortest, carried, rounded, normalOf, subnormalOf, hexFloatOf}
 use Rattle.binary64.specs.declared.HexFloat.{HexFloat}
 use Rattle.binary64.proofs.Kept.{kept-bounds}
 use Rattle.binary64.proofs.Value.{field-bounds}
@@ -72,11 +70,19 @@ module _ (f e bias : ℕ) (f-below : f < 2 ^ 52) where
       record { one-digit = b .0; below = div-lt-iff-lt-mul (sixteen-pos (13 - n)) .1 (rw (← s) f-below) }
 
   well-carried : (p r : ℕ) → 1 ≤ p → WellFormed (carried p r e bias)
-  well-carried p r h = elim (decLt r (16 ^ p)) [ yes k ↦ simp (lt-ltb r (16 ^ p) k) (record { one-digit = h; below = k }) | no n ↦ simp (le-ltb r (16 ^ p) (omega arith)) (record { one-digit = h; below = sixteen-pos p }) ]
+  well-carried p r h =
+      elim (decLt r (16 ^ p)) [
+        | yes k ↦ simp (lt-ltb r (16 ^ p) k) (record { one-digit = h; below = k })
+        | no n ↦ simp (le-ltb r (16 ^ p) (omega arith)) (record { one-digit = h; below = sixteen-pos p })
+      ]
 
   well-rounded : (p : ℕ) → 1 ≤ p → WellFormed (rounded p f e bias)
   unfolding rounded
-  well-rounded p h = elim (decLt p 13) [ yes k ↦ simp (lt-ltb p 13 k) (well-carried p (nearestTo f (16 ^ (13 - p))) h) | no n ↦ simp (le-ltb p 13 (omega arith)) (record { one-digit = lit≤ tt; below = f-below }) ]
+  well-rounded p h =
+      elim (decLt p 13) [
+        | yes k ↦ simp (lt-ltb p 13 k) (well-carried p (nearestTo f (16 ^ (13 - p))) h)
+        | no n ↦ simp (le-ltb p 13 (omega arith)) (record { one-digit = lit≤ tt; below = f-below })
+      ]
 
   pub well-normal : (p : NumericParam) → WellFormed (normalOf p f e bias)
   well-normal FromArgument = well-shortest
@@ -98,11 +104,15 @@ well-formed b p =
     unscaled : WellFormed (subnormalForm (fractionField b))
     unscaled = record { one-digit = lit≤ tt; below = field-bounds b .1 }
 
+    scaled : (p : ℕ)
+        → WellFormed (normalOf (Literal p) (fractionField (scaledBits (fractionField b))) (exponentField (scaledBits (fractionField b))) (1023 + 54))
+    scaled p = let x = scaledBits (fractionField b) in well-normal (fractionField x) (exponentField x) (1023 + 54) (field-bounds x .1) (Literal p)
+
     subnormal : (p : NumericParam) → WellFormed (subnormalOf p (fractionField b))
     subnormal FromArgument = unscaled
     subnormal (Literal p) =
         elim (decLt p 13) [
-          | yes k ↦ simp (lt-ltb p 13 k) (well-normal (fractionField (scaledBits (fractionField b))) (exponentField (scaledBits (fractionField b))) (1023 + 54) (field-bounds (scaledBits (fractionField b)) .1) (Literal p))
+          | yes k ↦ simp (lt-ltb p 13 k) (scaled p)
           | no n ↦ simp (le-ltb p 13 (omega arith)) unscaled
         ]
 
@@ -116,10 +126,16 @@ module _ (f e bias : ℕ) where
       let b = kept-bounds 12 f in
       let d : 13 ≡ 13 - n + n = omega arith in
       let s : 2 ^ 52 ≡ 16 ^ (13 - n) * 16 ^ n = ap (λ (i : ℕ). 16 ^ i) d ∙ pow-add 16 (13 - n) n in
-      let g : q * 2 ^ 52 ≡ f * 16 ^ n = ap (λ (i : ℕ). q * i) s ∙ sym (mul-assoc q (16 ^ (13 - n)) (16 ^ n)) ∙ ap (λ (i : ℕ). i * 16 ^ n) (kept-whole 12 f) in
-      simp (mul-one, one-mul, add-zero) (add-mul (16 ^ n) q (2 ^ 52) ∙ ap (λ (i : ℕ). i + q * 2 ^ 52) (mul-comm (16 ^ n) (2 ^ 52)) ∙ ap (λ (i : ℕ). 2 ^ 52 * 16 ^ n + i) g ∙ sym (add-mul (2 ^ 52) f (16 ^ n)))
+      let g : q * 2 ^ 52 ≡ f * 16 ^ n =
+      ap (λ (i : ℕ). q * i) s ∙ sym (mul-assoc q (16 ^ (13 - n)) (16 ^ n)) ∙ ap (λ (i : ℕ). i * 16 ^ n) (kept-whole 12 f) in
+      simp (mul-one, one-mul, add-zero)
+      (add-mul (16 ^ n) q (2 ^ 52)
+      ∙ ap (λ (i : ℕ). i + q * 2 ^ 52) (mul-comm (16 ^ n) (2 ^ 52))
+      ∙ ap (λ (i : ℕ). 2 ^ 52 * 16 ^ n + i) g
+      ∙ sym (add-mul (2 ^ 52) f (16 ^ n)))
 
-  pub whole-long : (p : ℕ) → 13 ≤ p → wholeOf (normalForm f 13 (p - 13) e bias) * 2 ^ 52 ≡ (2 ^ 52 + f) * 16 ^ placesOf (normalForm f 13 (p - 13) e bias)
+  pub whole-long : (p : ℕ) → 13 ≤ p
+      → wholeOf (normalForm f 13 (p - 13) e bias) * 2 ^ 52 ≡ (2 ^ 52 + f) * 16 ^ placesOf (normalForm f 13 (p - 13) e bias)
   whole-long p h =
       mul-assoc (1 * 16 ^ 13 + f) (16 ^ (p - 13)) (2 ^ 52)
       ∙ ap (λ (i : ℕ). (2 ^ 52 + f) * i) (mul-comm (16 ^ (p - 13)) (16 ^ 13) ∙ sym (pow-add 16 13 (p - 13)))

@@ -3,32 +3,32 @@ use mathlib.Core.Path.{_≡_, refl, sym, ap, _∙_}
 use mathlib.Core.Bool.{Bool, true, false, _&&_}
 use mathlib.Core.List.{List, [], _∷_, _++_, append-assoc, append-nil}
 use mathlib.Core.Option.{Option, none, some}
-use Prim.Native.Nat.{ℕ, zero, suc, _+_, _*_, _^_, _≤_, _<_}
-use native.Mathlib.Nat.{zero-mul, zero-add}
-use native.Mathlib.Decide.{decLt}
+use Prim.Native.Nat.{ℕ, _≤_, _<_}
+use Prim.Native.Char.{code}
+use native.Mathlib.Nat.{zero-mul}
 use native.Mathlib.Omega.{arith}
 use lib.Dec.{eqb, lit<, lit≤}
-use lib.IntN.{ℤ}
-use lib.ListN.{length, replicate, length-append, length-replicate}
+use lib.ListN.{length, replicate, length-append}
 use Rattle.writing.specs.Choose.{choose}
-use Rattle.numerals.specs.Digits.{digits, digitsIn, places, letterOf, lettersOf, numberFrom, numberOf, numeral, decimal}
+use Rattle.numerals.specs.Digits.{digits, places, letterOf, lettersOf, numberOf, numeral, decimal}
 use Rattle.numerals.specs.Grouping.{grouped}
 use Rattle.numerals.specs.Integers.{signed}
-use Rattle.numerals.proofs.Digits.{Below, below-append, below-digitsIn, below-zeros, letters-append, length-digitsIn, number-append, number-zeros, number-digits, places-pos}
-use Rattle.layout.specs.Frame.{byteText, openingByte, closingByte, isMinus, marks, spaces, headText, tailText, framed}
+use Rattle.numerals.proofs.Digits.{Below, below-append, below-digitsIn, below-zeros, letters-append}
+use Rattle.numerals.proofs.Digits.{length-digitsIn, number-append, number-zeros, number-digits, places-pos}
+use Rattle.layout.specs.Frame.{byteText, closingByte, isMinus, marks, spaces, headText, tailText, framed}
 use Rattle.layout.specs.declared.Mark.{Mark}
 use Rattle.layout.specs.declared.Mark.the-variants.{NoMark, Plus, Space, Minus, Brackets}
 use Rattle.layout.specs.declared.Prefix.{Prefix}
 use Rattle.layout.specs.declared.Prefix.the-variants.{NoPrefix, Octal, HexLower, HexUpper}
 use Rattle.layout.specs.declared.Frame.{Frame}
 use Rattle.reading.specs.Kept.{kept}
-use Rattle.reading.specs.Reading.{_andThen_, wholeNumber, withMinus, beforeClose, readDecimal, afterPrefix, orWhole, readBits}
+use Rattle.reading.specs.Reading.{wholeNumber, withMinus, beforeClose, readDecimal, afterPrefix, orWhole, readBits}
 use Rattle.reading.proofs.Kept.{kept-append, kept-spaces, kept-letters, kept-grouped, zero-letters}
 use Rattle.reading.proofs.Digits.{letter-is-not, whole-read}
 
 -- A value's text with spaces in front of it, before a closing bracket and behind it: every place where 01 and E2 let them stand.
 abbrev pub spaced : ℕ → Mark → Prefix → ℕ → List ℕ → ℕ → ℕ → List ℕ
-spaced a m p z body i j = spaces a ++ (marks m p ++ (replicate z 48 ++ (body ++ (spaces i ++ (byteText (closingByte m) ++ spaces j)))))
+spaced a m p z body i j = spaces a ++ (marks m p ++ (replicate z (code "0") ++ (body ++ (spaces i ++ (byteText (closingByte m) ++ spaces j)))))
 
 pub framed-spaced : (f : Frame) (body : List ℕ) → framed f body ≡ spaced (f .before) (f .mark) (f .prefix) (f .zeros) body (f .after) 0
 unfolding framed headText tailText spaces
@@ -43,8 +43,8 @@ kept-closing Minus = refl
 kept-closing Brackets = refl
 
 -- the digits of a piece: zeros of padding, then its own
-abbrev pub padded : ℕ → List ℕ → List ℕ
-padded z ds = replicate z 0 ++ ds
+abbrev pub withZeros : ℕ → List ℕ → List ℕ
+withZeros z ds = replicate z 0 ++ ds
 
 -- What counts of a piece whose text keeps the digits ds: the marks, the digits, the closing mark.
 pub kept-spaced : (a : ℕ) (m : Mark) (p : Prefix) (z : ℕ) (body rest : List ℕ) (i j : ℕ) → kept body ≡ rest
@@ -68,7 +68,7 @@ digits-of base n h =
     }
 
 -- Leading zeros count nothing.
-pub zeros-first : (base n z : ℕ) (ds : List ℕ) → 0 < base → Digits base n ds → Digits base n (padded z ds)
+pub zeros-first : (base n z : ℕ) (ds : List ℕ) → 0 < base → Digits base n ds → Digits base n (withZeros z ds)
 unfolding numberOf
 zeros-first base n z ds h d =
     record {
@@ -83,9 +83,9 @@ unfolding withMinus lettersOf
 unmarked n [] d = absurd (omega (arith, d .some-digit))
 unmarked n (c ∷ cs) d =
     let h : c < 16 = omega (arith, d .below .0) in
-    simp (letter-is-not 45 c h (λ x p q e. omega arith), whole-read 10 (c ∷ cs) (lit≤ tt) (d .below) (d .some-digit), d .number)
+    simp (letter-is-not (code "-") c h (λ x p q e. omega arith), whole-read 10 (c ∷ cs) (lit≤ tt) (d .below) (d .some-digit), d .number)
 
-pub after-minus : (n : ℕ) (ds : List ℕ) → Digits 10 n ds → withMinus (45 ∷ lettersOf false ds) ≡ some (signed true n)
+pub after-minus : (n : ℕ) (ds : List ℕ) → Digits 10 n ds → withMinus (code "-" ∷ lettersOf false ds) ≡ some (signed true n)
 unfolding withMinus
 after-minus n ds d = simp (whole-read 10 ds (lit≤ tt) (d .below) (d .some-digit), d .number)
 
@@ -95,16 +95,16 @@ unfolding readDecimal lettersOf
 plain n [] d = absurd (omega (arith, d .some-digit))
 plain n (c ∷ cs) d =
     let h : c < 16 = omega (arith, d .below .0) in
-    simp (letter-is-not 40 c h (λ x p q e. omega arith)) (unmarked n (c ∷ cs) d)
+    simp (letter-is-not (code "(") c h (λ x p q e. omega arith)) (unmarked n (c ∷ cs) d)
 
 -- .. inside brackets
-before-close : (xs : List ℕ) → beforeClose (xs ++ (41 ∷ [])) ≡ some xs
+before-close : (xs : List ℕ) → beforeClose (xs ++ (code ")" ∷ [])) ≡ some xs
 unfolding beforeClose
 before-close [] = refl
 before-close (x ∷ []) = refl
 before-close (x ∷ y ∷ xs) = simp (before-close (y ∷ xs))
 
-brackets : (n : ℕ) (ds : List ℕ) → Digits 10 n ds → readDecimal (40 ∷ (lettersOf false ds ++ (41 ∷ []))) ≡ some (signed true n)
+brackets : (n : ℕ) (ds : List ℕ) → Digits 10 n ds → readDecimal (code "(" ∷ (lettersOf false ds ++ (code ")" ∷ []))) ≡ some (signed true n)
 unfolding readDecimal
 brackets n ds d = simp (before-close (lettersOf false ds), whole-read 10 ds (lit≤ tt) (d .below) (d .some-digit), d .number)
 
@@ -113,13 +113,17 @@ pub decimal-back : (a : ℕ) (m : Mark) (z : ℕ) (body : List ℕ) (i j n : ℕ
     → readDecimal (kept (spaced a m NoPrefix z body i j)) ≡ some (signed (isMinus m) n)
 unfolding kept readDecimal
 decimal-back a m z body i j n e =
-    let d : Digits 10 n (padded z (digits 10 n)) = zeros-first 10 n z (digits 10 n) (lit< tt) (digits-of 10 n (lit≤ tt)) in
-    let k : kept (spaced a m NoPrefix z body i j) ≡ kept (marks m NoPrefix) ++ (lettersOf false (padded z (digits 10 n)) ++ byteText (closingByte m)) =
-    kept-spaced a m NoPrefix z body (lettersOf false (digits 10 n)) i j e
-    ∙ ap (λ (l : List ℕ). kept (marks m NoPrefix) ++ l) (sym (append-assoc (lettersOf false (replicate z 0)) (lettersOf false (digits 10 n)) (byteText (closingByte m))) ∙ ap (λ (l : List ℕ). l ++ byteText (closingByte m)) (sym (letters-append false (replicate z 0) (digits 10 n)))) in
-    ap readDecimal k ∙ by-mark m (padded z (digits 10 n)) d
+    let ds = digits 10 n in
+    let close = byteText (closingByte m) in
+    let d : Digits 10 n (withZeros z ds) = zeros-first 10 n z ds (lit< tt) (digits-of 10 n (lit≤ tt)) in
+    let k : lettersOf false (replicate z 0) ++ (lettersOf false ds ++ close) ≡ lettersOf false (withZeros z ds) ++ close =
+    sym (append-assoc (lettersOf false (replicate z 0)) (lettersOf false ds) close)
+    ∙ ap (λ (l : List ℕ). l ++ close) (sym (letters-append false (replicate z 0) ds)) in
+    ap readDecimal (kept-spaced a m NoPrefix z body (lettersOf false ds) i j e ∙ ap (λ (l : List ℕ). kept (marks m NoPrefix) ++ l) k)
+    ∙ by-mark m (withZeros z ds) d
   where
-    by-mark : (m : Mark) (ds : List ℕ) → Digits 10 n ds → readDecimal (kept (marks m NoPrefix) ++ (lettersOf false ds ++ byteText (closingByte m))) ≡ some (signed (isMinus m) n)
+    by-mark : (m : Mark) (ds : List ℕ) → Digits 10 n ds
+        → readDecimal (kept (marks m NoPrefix) ++ (lettersOf false ds ++ byteText (closingByte m))) ≡ some (signed (isMinus m) n)
     by-mark NoMark ds d = rw append-nil (plain n ds d)
     by-mark Plus ds d = rw append-nil (plain n ds d)
     by-mark Space ds d = rw append-nil (plain n ds d)
@@ -135,7 +139,7 @@ no-prefix : (ds : List ℕ) → Below 16 ds → afterPrefix (lettersOf false ds)
 unfolding afterPrefix lettersOf
 no-prefix [] b = refl
 no-prefix (c ∷ []) b = refl
-no-prefix (c ∷ d ∷ ds) b = simp (letter-is-not 120 d (b .1 .0) (λ x p q e. omega arith)) (neither (eqb (letterOf false c) 48))
+no-prefix (c ∷ d ∷ ds) b = simp (letter-is-not (code "x") d (b .1 .0) (λ x p q e. omega arith)) (neither (eqb (letterOf false c) (code "0")))
   where
     neither : (t : Bool) → choose {A = Option (List ℕ)} (t && false) (λ _. some (lettersOf false ds)) (λ _. none) ≡ none
     neither true = refl
@@ -158,11 +162,11 @@ after-prefix HexUpper base n ds h k d = simp (whole-read base ds k (d .below) (d
 pub bits-back : (a : ℕ) (p : Prefix) (z : ℕ) (body : List ℕ) (i j base n : ℕ) → 2 ≤ base → base ≤ 16 → kept body ≡ lettersOf false (digits base n)
     → readBits base (kept (spaced a NoMark p z body i j)) ≡ some n
 bits-back a p z body i j base n h k e =
-    let d : Digits base n (padded z (digits base n)) = zeros-first base n z (digits base n) (omega arith) (digits-of base n h) in
+    let d : Digits base n (withZeros z (digits base n)) = zeros-first base n z (digits base n) (omega arith) (digits-of base n h) in
     ap (readBits base)
     (kept-spaced a NoMark p z body (lettersOf false (digits base n)) i j e
     ∙ simp (append-nil, ← letters-append))
-    ∙ after-prefix p base n (padded z (digits base n)) h k d
+    ∙ after-prefix p base n (withZeros z (digits base n)) h k d
 
 -- The texts that these laws are about: digits in small letters or capitals, and digits with commas.
 pub kept-numeral : (u : Bool) (base n : ℕ) → 2 ≤ base → base ≤ 16 → kept (numeral u base n) ≡ lettersOf false (digits base n)

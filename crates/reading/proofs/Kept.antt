@@ -4,7 +4,8 @@ use mathlib.Core.Path.{_≡_, refl, ap}
 use mathlib.Core.Bool.{Bool, true, false, _&&_}
 use lib.Dec.{ltb, eqb}
 use mathlib.Core.List.{List, [], _∷_, _++_}
-use Prim.Native.Nat.{ℕ, zero, suc, _+_, _%_, _≤_, _<_}
+use Prim.Native.Nat.{ℕ, zero, suc, _+_, _-_, _%_, _≤_, _<_}
+use Prim.Native.Char.{code}
 use native.Mathlib.Decide.{decLt}
 use native.Mathlib.Omega.{arith}
 use lib.ListN.{length, replicate}
@@ -36,15 +37,19 @@ digit-kept : (u : Bool) (d : ℕ) → d < 16 → (isDropped (letterOf u d) ≡ f
 unfolding letterOf
 digit-kept u d h = elim (decLt d 10) [ yes p ↦ number p | no n ↦ letter u (omega arith) ]
   where
-    none : (x : ℕ) → 48 ≤ x → isDropped x ≡ false
-    none x k = simp (ne-eqb x 32 (λ e. omega arith), ne-eqb x 44 (λ e. omega arith), ne-eqb x 43 (λ e. omega arith))
+    none : (x : ℕ) → code "0" ≤ x → isDropped x ≡ false
+    none x k = simp (ne-eqb x (code " ") (λ e. omega arith), ne-eqb x (code ",") (λ e. omega arith), ne-eqb x (code "+") (λ e. omega arith))
 
     number : d < 10 → (isDropped (letterOf u d) ≡ false) × (small (letterOf u d) ≡ letterOf false d)
-    number p = simp (lt-ltb d 10 p) (none (48 + d) (omega arith), simp (lt-leb 65 (48 + d) (omega arith)))
+    number p = simp (lt-ltb d 10 p) (none (code "0" + d) (omega arith), simp (lt-leb (code "A") (code "0" + d) (omega arith)))
 
     letter : (t : Bool) → 10 ≤ d → (isDropped (letterOf t d) ≡ false) × (small (letterOf t d) ≡ letterOf false d)
-    letter true k = simp (le-ltb d 10 k) (none (55 + d) (omega arith), simp (le-leb 65 (55 + d) (omega arith), le-leb (55 + d) 90 (omega arith)) (omega arith))
-    letter false k = simp (le-ltb d 10 k) (none (87 + d) (omega arith), simp (le-leb 65 (87 + d) (omega arith), lt-leb (87 + d) 90 (omega arith)))
+    letter true k =
+        let x = code "A" + (d - 10) in
+        simp (le-ltb d 10 k) (none x (omega arith), simp (le-leb (code "A") x (omega arith), le-leb x (code "Z") (omega arith)) (omega arith))
+    letter false k =
+        let x = code "a" + (d - 10) in
+        simp (le-ltb d 10 k) (none x (omega arith), simp (le-leb (code "A") x (omega arith), lt-leb x (code "Z") (omega arith)))
 
 pub kept-letters : (u : Bool) (ds : List ℕ) → Below 16 ds → kept (lettersOf u ds) ≡ lettersOf false ds
 unfolding kept lettersOf
@@ -54,17 +59,17 @@ kept-letters u (d ∷ ds) b =
     simp (k .0, k .1) (ap (λ (l : List ℕ). letterOf false d ∷ l) (kept-letters u ds (b .1)))
 
 -- zeros of padding are digits
-pub zero-letters : (u : Bool) (n : ℕ) → replicate n 48 ≡ lettersOf u (replicate n 0)
+pub zero-letters : (u : Bool) (n : ℕ) → replicate n (code "0") ≡ lettersOf u (replicate n 0)
 unfolding lettersOf letterOf
 zero-letters u zero = refl
-zero-letters u (suc n) = ap (λ (l : List ℕ). 48 ∷ l) (zero-letters u n)
+zero-letters u (suc n) = ap (λ (l : List ℕ). code "0" ∷ l) (zero-letters u n)
 
 -- commas
 kept-comma : (r : ℕ) (l : List ℕ) → kept (commaAfter r ++ l) ≡ kept l
 unfolding kept
 kept-comma r l = one (ltb 0 r && eqb (r % 3) 0)
   where
-    one : (t : Bool) → kept (choose t (λ _. 44 ∷ []) (λ _. []) ++ l) ≡ kept l
+    one : (t : Bool) → kept (choose t (λ _. code "," ∷ []) (λ _. []) ++ l) ≡ kept l
     one true = refl
     one false = refl
 

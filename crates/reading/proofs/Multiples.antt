@@ -1,15 +1,14 @@
 -- The multiple nearest to a number: no other lies nearer, and where another lies as near, it is an even multiple. Then the same against every
 -- number with a leading 1, p hexadecimal digits and a power of two. Nothing here is about floats or text. Assumes nothing.
-use mathlib.Core.Path.{_≡_, refl, sym, ap, _∙_}
-use Prim.Native.Nat.{ℕ, zero, suc, _+_, _-_, _*_, _/_, _%_, _^_, _≤_, _<_}
-use native.Mathlib.Nat.{div-add-mod', mod-lt, mul-le-mul-right, mul-le-mul-left, mul-lt-mul-of-pos-right, mul-pos, mul-assoc, pow-suc, lt-of-lt-of-le, le-of-lt, ne-of-lt, add-mul, one-mul, add-zero, mul-comm, mul-sub, mul-right-comm, eq-of-mul-eq-mul-right}
+use mathlib.Core.Path.{_≡_, sym, ap, _∙_}
+use Prim.Native.Nat.{ℕ, _+_, _-_, _*_, _/_, _%_, _^_, _≤_, _<_}
+use native.Mathlib.Nat.{div-add-mod', mod-lt, mul-le-mul-right, mul-le-mul-left, mul-lt-mul-of-pos-right, mul-pos, mul-assoc, lt-of-lt-of-le, le-of-lt}
+use native.Mathlib.Nat.{ne-of-lt, add-mul, one-mul, add-zero, mul-comm, mul-sub, mul-right-comm, eq-of-mul-eq-mul-right}
 use native.Mathlib.Decide.{decLt}
 use native.Mathlib.Omega.{arith}
-use lib.Dec.{lit<}
 use lib.Pow.{pow-add, pow-mono, pow-pos}
 use borrow.Author.Tests.{lt-ltb, le-ltb}
 use Rattle.binary64.specs.Rounding.{nearestTo}
-use Rattle.binary64.proofs.Powers.{sixteens}
 use Rattle.reading.proofs.Forms.{sixteen-pos}
 
 -- how far two whole numbers lie apart
@@ -87,7 +86,11 @@ beyond U c d h = omega (arith, mul-le-mul-right {m = c + 1} {n = d} U (omega ari
 
 -- No multiple lies nearer than one within half of U, and where another lies as near, that one is even.
 pub near-multiple : (X U r c : ℕ) → Half X U r → dist X (r * U) ≤ dist X (c * U)
-near-multiple X U r c h = elim (decLt c r) [ yes p ↦ under (beyond U c r p) | no n ↦ elim (decLt r c) [ yes q ↦ over (beyond U r c q) | no m ↦ same (omega arith) ] ]
+near-multiple X U r c h =
+    elim (decLt c r) [
+      | yes p ↦ under (beyond U c r p)
+      | no n ↦ elim (decLt r c) [ yes q ↦ over (beyond U r c q) | no m ↦ same (omega arith) ]
+    ]
   where
     under : c * U + U ≤ r * U → dist X (r * U) ≤ dist X (c * U)
     under k = let w = h .within in omega arith
@@ -99,7 +102,11 @@ near-multiple X U r c h = elim (decLt c r) [ yes p ↦ under (beyond U c r p) | 
     same e = rw e (omega arith)
 
 pub tie-even : (X U r c : ℕ) → Half X U r → dist X (r * U) ≡ dist X (c * U) → (c * U ≡ r * U → ⊥) → r % 2 ≡ 0
-tie-even X U r c h e n = elim (decLt c r) [ yes p ↦ under (beyond U c r p) | no a ↦ elim (decLt r c) [ yes q ↦ over (beyond U r c q) | no m ↦ absurd (n (ap (λ (k : ℕ). k * U) (omega arith))) ] ]
+tie-even X U r c h e n =
+    elim (decLt c r) [
+      | yes p ↦ under (beyond U c r p)
+      | no a ↦ elim (decLt r c) [ yes q ↦ over (beyond U r c q) | no m ↦ absurd (n (ap (λ (k : ℕ). k * U) (omega arith))) ]
+    ]
   where
     under : c * U + U ≤ r * U → r % 2 ≡ 0
     under k = let w = h .within in h .tie (omega arith)

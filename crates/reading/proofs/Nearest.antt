@@ -1,19 +1,19 @@
 -- %a with 1 to 12 digits: the number read lies nearest to the value among all numbers of its form, of either sign. Assumes nothing.
 use mathlib.Core.Path.{_≡_, refl, sym, ap, _∙_}
 use mathlib.Core.Bool.{Bool, true, false}
-use Prim.Native.Nat.{ℕ, zero, suc, _+_, _-_, _*_, _/_, _%_, _^_, _≤_, _<_}
-use native.Mathlib.Nat.{mul-assoc, mul-comm, mul-right-comm, mul-one, one-mul, add-mul, add-zero, mul-le-mul-right, le-of-mul-le-mul-right, lt-of-mul-lt-mul-right, mul-lt-mul-of-pos-right, eq-of-mul-eq-mul-right, pow-suc, ne-of-lt, le-of-lt, mul-pos, mul-mod-left}
+use Prim.Native.Nat.{ℕ, zero, suc, _+_, _-_, _*_, _%_, _^_, _≤_, _<_}
+use native.Mathlib.Nat.{mul-assoc, mul-right-comm, mul-one, one-mul, add-mul, add-zero, mul-le-mul-right}
+use native.Mathlib.Nat.{le-of-mul-le-mul-right, lt-of-mul-lt-mul-right, eq-of-mul-eq-mul-right, pow-suc, ne-of-lt, le-of-lt}
 use native.Mathlib.Decide.{decLt}
 use native.Mathlib.Omega.{arith}
-use lib.Dec.{ltb, lit<, lit≤}
 use lib.IntN.{ℤ, pos, negsuc, subℕ}
 use lib.Pow.{pow-add, pow-pos}
 use borrow.Author.Tests.{lt-ltb, le-ltb}
 use Rattle.binary64.specs.Fields.{negative, units}
 use Rattle.binary64.specs.Rounding.{nearestTo}
-use Rattle.binary64.specs.HexFloat.{leadingDigit, normalForm, carried}
+use Rattle.binary64.specs.HexFloat.{carried}
 use Rattle.binary64.specs.declared.HexFloat.{HexFloat}
-use Rattle.binary64.proofs.Powers.{sixteens-left, sixteens}
+use Rattle.binary64.proofs.Powers.{sixteens-left}
 use Rattle.reading.specs.Reading.{Scaled}
 use Rattle.reading.specs.Nearness.{raised, Clears, wholeAt, valueAt, apart, Nearest}
 use Rattle.reading.proofs.Floats.{scaledOf}
@@ -106,11 +106,15 @@ split-power p k = let d : 13 ≡ p + (13 - p) = omega arith in ap (λ (i : ℕ).
 -- The significand 2 ^ 52 + f with the multiple of 16 ^ (13 - p) nearest to it.
 whole-half : (f p : ℕ) → 1 ≤ p → p < 13 → Half (2 ^ 52 + f) (16 ^ (13 - p)) (nearestWhole f p)
 whole-half f p h k =
-    rw (split-power p k) (half-shift (16 ^ p) f (16 ^ (13 - p)) (nearestTo f (16 ^ (13 - p))) (even-power p h) (nearest-half f (16 ^ (13 - p)) (sixteen-pos (13 - p))))
+    let u = 16 ^ (13 - p) in
+    rw (split-power p k) (half-shift (16 ^ p) f u (nearestTo f u) (even-power p h) (nearest-half f u (sixteen-pos (13 - p))))
 
 -- A fraction rounds at most to the next whole number.
 carry-at-most : (f p : ℕ) → f < 2 ^ 52 → p < 13 → nearestTo f (16 ^ (13 - p)) ≤ 16 ^ p
-carry-at-most f p h k = no-more (16 ^ (13 - p)) (nearestTo f (16 ^ (13 - p))) (nearest-half f (16 ^ (13 - p)) (sixteen-pos (13 - p)) .within) (sixteen-pos (13 - p)) (split-power p k)
+carry-at-most f p h k =
+    let u = 16 ^ (13 - p) in
+    let u-pos = sixteen-pos (13 - p) in
+    no-more u (nearestTo f u) (nearest-half f u u-pos .within) u-pos (split-power p k)
   where
     no-more : (u n : ℕ) → dist f (n * u) * 2 ≤ u → 0 < u → 2 ^ 52 ≡ 16 ^ p * u → n ≤ 16 ^ p
     no-more u n d g e = elim (decLt (16 ^ p) n) [ yes q ↦ absurd (far (beyond u (16 ^ p) n q)) | no m ↦ omega arith ]
@@ -137,25 +141,28 @@ unfolding wholeAt
 read-is f E c K p s hf hE hK hc hp = go (nearestTo f (16 ^ (13 - p))) (carry-at-most f p hf hp)
   where
     -- the power of the last place, with the exponent e
-    power : (e : ℕ) → Clears K p (subℕ e (1023 + c)) → raised K (subℕ e (1023 + c)) - 4 * p + (1023 + c + 4 * p) ≡ K + e
+    place : ℕ → ℕ
+    place e = raised K (subℕ e (1023 + c)) - 4 * p
+
+    power : (e : ℕ) → Clears K p (subℕ e (1023 + c)) → place e + (1023 + c + 4 * p) ≡ K + e
     power e cl = raised-sub K p e (1023 + c) cl
 
     go : (r : ℕ) → r ≤ 16 ^ p → Clears K p (scaledOf s (carried p r E (1023 + c)) .e)
         → scaledOf s (carried p r E (1023 + c)) .m * 2 ^ (raised K (scaledOf s (carried p r E (1023 + c)) .e) - 4 * p) ≡ (16 ^ p + r) * 2 ^ digitUnit K E c p
     go r h = elim (decLt r (16 ^ p)) [ yes k ↦ simp (lt-ltb r (16 ^ p) k) (kept r) | no n ↦ simp (le-ltb r (16 ^ p) (omega arith)) (carry r (omega arith)) ]
       where
-        kept : (r : ℕ) → Clears K p (subℕ E (1023 + c)) → (1 * 16 ^ p + r) * 1 * 2 ^ (raised K (subℕ E (1023 + c)) - 4 * p) ≡ (16 ^ p + r) * 2 ^ digitUnit K E c p
+        kept : (r : ℕ) → Clears K p (subℕ E (1023 + c)) → (1 * 16 ^ p + r) * 1 * 2 ^ place E ≡ (16 ^ p + r) * 2 ^ digitUnit K E c p
         kept r cl =
-            let q : raised K (subℕ E (1023 + c)) - 4 * p ≡ digitUnit K E c p = omega (arith, power E cl) in
-            ap (λ (n : ℕ). n * 2 ^ (raised K (subℕ E (1023 + c)) - 4 * p)) (mul-one (1 * 16 ^ p + r) ∙ ap (λ (n : ℕ). n + r) (one-mul (16 ^ p)))
-            ∙ same-power (16 ^ p + r) (raised K (subℕ E (1023 + c)) - 4 * p) (digitUnit K E c p) q
+            let q : place E ≡ digitUnit K E c p = omega (arith, power E cl) in
+            ap (λ (n : ℕ). n * 2 ^ place E) (mul-one (1 * 16 ^ p + r) ∙ ap (λ (n : ℕ). n + r) (one-mul (16 ^ p)))
+            ∙ same-power (16 ^ p + r) (place E) (digitUnit K E c p) q
 
-        carry : (r : ℕ) → r ≡ 16 ^ p → Clears K p (subℕ (E + 1) (1023 + c)) → (1 * 16 ^ p + 0) * 1 * 2 ^ (raised K (subℕ (E + 1) (1023 + c)) - 4 * p) ≡ (16 ^ p + r) * 2 ^ digitUnit K E c p
+        carry : (r : ℕ) → r ≡ 16 ^ p → Clears K p (subℕ (E + 1) (1023 + c)) → (1 * 16 ^ p + 0) * 1 * 2 ^ place (E + 1) ≡ (16 ^ p + r) * 2 ^ digitUnit K E c p
         carry r e cl =
             let k = digitUnit K E c p in
-            let q : raised K (subℕ (E + 1) (1023 + c)) - 4 * p ≡ k + 1 = omega (arith, power (E + 1) cl) in
-            ap (λ (n : ℕ). n * 2 ^ (raised K (subℕ (E + 1) (1023 + c)) - 4 * p)) (mul-one (1 * 16 ^ p + 0) ∙ add-zero (1 * 16 ^ p) ∙ one-mul (16 ^ p))
-            ∙ same-power (16 ^ p) (raised K (subℕ (E + 1) (1023 + c)) - 4 * p) (k + 1) q
+            let q : place (E + 1) ≡ k + 1 = omega (arith, power (E + 1) cl) in
+            ap (λ (n : ℕ). n * 2 ^ place (E + 1)) (mul-one (1 * 16 ^ p + 0) ∙ add-zero (1 * 16 ^ p) ∙ one-mul (16 ^ p))
+            ∙ same-power (16 ^ p) (place (E + 1)) (k + 1) q
             ∙ sym (powers (16 ^ p) k 1)
             ∙ omega (arith, add-mul (16 ^ p) (16 ^ p) (2 ^ k))
             ∙ ap (λ (n : ℕ). (16 ^ p + n) * 2 ^ k) (sym e)
@@ -163,38 +170,52 @@ read-is f E c K p s hf hE hK hc hp = go (nearestTo f (16 ^ (13 - p))) (carry-at-
 -- Everything at the scale K + 64: there the significand's last place is whole.
 module _ (b f E c p : ℕ) (hf : f < 2 ^ 52) (hE : 1 ≤ E) (hc : c ≤ 54) (h1 : 1 ≤ p) (hp : p < 13) (hu : units b * 2 ^ c ≡ (2 ^ 52 + f) * 2 ^ (E - 1))
     (s : Bool) (K : ℕ) (hK : 1074 ≤ K) (cl : Clears K p (readOf s f E c p .e)) where
-  large-value : valueAt K b * 2 ^ 64 ≡ (2 ^ 52 + f) * 2 ^ unit (K + 64) E c
+  -- the powers of the last place and of the last digit kept, the value and the number read
+  abbrev i : ℕ
+  i = unit (K + 64) E c
+
+  abbrev k : ℕ
+  k = digitUnit (K + 64) E c p
+
+  abbrev X : ℕ
+  X = (2 ^ 52 + f) * 2 ^ i
+
+  abbrev n : ℕ
+  n = nearestWhole f p
+
+  large-value : valueAt K b * 2 ^ 64 ≡ X
   large-value = sym (value-more K 64 b hK) ∙ value-is b f E c (K + 64) hE (omega arith) hc hu
 
-  large-read : readAt K s f E c p * 2 ^ 64 ≡ nearestWhole f p * 2 ^ digitUnit (K + 64) E c p
+  large-read : readAt K s f E c p * 2 ^ 64 ≡ n * 2 ^ k
   large-read =
       sym (whole-more K 64 (readOf s f E c p .m) p (readOf s f E c p .e) cl)
       ∙ read-is f E c (K + 64) p s hf hE (omega arith) hc hp (clears-more K 64 p (readOf s f E c p .e) cl)
 
-  last-place : 16 ^ (13 - p) * 2 ^ unit (K + 64) E c ≡ 2 ^ digitUnit (K + 64) E c p
-  last-place = ap (λ (n : ℕ). n * 2 ^ unit (K + 64) E c) (sym (sixteens-left p (omega arith))) ∙ sym (pow-add 2 (52 - 4 * p) (unit (K + 64) E c))
+  last-place : 16 ^ (13 - p) * 2 ^ i ≡ 2 ^ k
+  last-place = ap (λ (m : ℕ). m * 2 ^ i) (sym (sixteens-left p (omega arith))) ∙ sym (pow-add 2 (52 - 4 * p) i)
 
-  bottom : 16 ^ p * 2 ^ digitUnit (K + 64) E c p ≤ (2 ^ 52 + f) * 2 ^ unit (K + 64) E c
-  bottom =
-      rw (← last-place, ← mul-assoc (16 ^ p) (16 ^ (13 - p)) (2 ^ unit (K + 64) E c), ← split-power p hp)
-      (mul-le-mul-right (2 ^ unit (K + 64) E c) (omega arith))
+  bottom : 16 ^ p * 2 ^ k ≤ X
+  bottom = rw (← last-place, ← mul-assoc (16 ^ p) (16 ^ (13 - p)) (2 ^ i), ← split-power p hp) (mul-le-mul-right (2 ^ i) (omega arith))
 
-  half : Half ((2 ^ 52 + f) * 2 ^ unit (K + 64) E c) (2 ^ digitUnit (K + 64) E c p) (nearestWhole f p)
-  half = rw (← last-place) (half-scale (2 ^ 52 + f) (16 ^ (13 - p)) (nearestWhole f p) (2 ^ unit (K + 64) E c) (pow-pos (unit (K + 64) E c)) (whole-half f p h1 hp))
+  half : Half X (2 ^ k) n
+  half = rw (← last-place) (half-scale (2 ^ 52 + f) (16 ^ (13 - p)) n (2 ^ i) (pow-pos i) (whole-half f p h1 hp))
 
   -- against a rival
   module _ (t : Bool) (m : ℕ) (e : ℤ) (low : 16 ^ p ≤ m) (high : m < 2 * 16 ^ p) (cr : Clears K p e) where
-    large-rival : wholeAt K m p e * 2 ^ 64 ≡ m * 2 ^ (raised (K + 64) e - 4 * p)
+    abbrev j : ℕ
+    j = raised (K + 64) e - 4 * p
+
+    large-rival : wholeAt K m p e * 2 ^ 64 ≡ m * 2 ^ j
     unfolding wholeAt
     large-rival = sym (whole-more K 64 m p e cr)
 
     farther-signed : dist (valueAt K b * 2 ^ 64) (readAt K s f E c p * 2 ^ 64) < valueAt K b * 2 ^ 64 + wholeAt K m p e * 2 ^ 64
-    farther-signed = rw (large-value, large-read, large-rival) (other-sign p (digitUnit (K + 64) E c p) ((2 ^ 52 + f) * 2 ^ unit (K + 64) E c) (nearestWhole f p) bottom half m (raised (K + 64) e - 4 * p) low high)
+    farther-signed = rw (large-value, large-read, large-rival) (other-sign p k X n bottom half m j low high)
 
     near : apart s (valueAt K b) s (readAt K s f E c p) ≤ apart s (valueAt K b) t (wholeAt K m p e)
     near =
         near-back s t (valueAt K b) (readAt K s f E c p) (wholeAt K m p e) 64
-        (rw (large-value, large-read, large-rival) (near-rival p (digitUnit (K + 64) E c p) ((2 ^ 52 + f) * 2 ^ unit (K + 64) E c) (nearestWhole f p) bottom half m (raised (K + 64) e - 4 * p) low high))
+        (rw (large-value, large-read, large-rival) (near-rival p k X n bottom half m j low high))
         farther-signed
 
     even : apart s (valueAt K b) s (readAt K s f E c p) ≡ apart s (valueAt K b) t (wholeAt K m p e)
@@ -202,7 +223,7 @@ module _ (b f E c p : ℕ) (hf : f < 2 ^ 52) (hE : 1 ≤ E) (hc : c ≤ 54) (h1 
         → nearestWhole f p % 2 ≡ 0
     even =
         tie-back s t (valueAt K b) (readAt K s f E c p) (wholeAt K m p e) 64
-        (rw (large-value, large-read, large-rival) (tie-rival p (digitUnit (K + 64) E c p) ((2 ^ 52 + f) * 2 ^ unit (K + 64) E c) (nearestWhole f p) bottom half m (raised (K + 64) e - 4 * p) low high))
+        (rw (large-value, large-read, large-rival) (tie-rival p k X n bottom half m j low high))
         farther-signed
 
 -- The form: a leading 1 and p digits; after a carry the digits are zeros, and the last is even.
@@ -213,7 +234,11 @@ pub record Form (p r m f : ℕ) : Type 0 where
   pub parity : (16 ^ p + r) % 2 ≡ 0 → m % 2 ≡ 0
 
 form : (p r e bias : ℕ) (s : Bool) → 1 ≤ p → Form p r (scaledOf s (carried p r e bias) .m) (scaledOf s (carried p r e bias) .f)
-form p r e bias s h = elim (decLt r (16 ^ p)) [ yes k ↦ simp (lt-ltb r (16 ^ p) k) (kept k) | no n ↦ simp (le-ltb r (16 ^ p) (omega arith)) (carry (sixteen-pos p) (even-power p h)) ]
+form p r e bias s h =
+    elim (decLt r (16 ^ p)) [
+      | yes k ↦ simp (lt-ltb r (16 ^ p) k) (kept k)
+      | no n ↦ simp (le-ltb r (16 ^ p) (omega arith)) (carry (sixteen-pos p) (even-power p h))
+    ]
   where
     kept : r < 16 ^ p → Form p r ((1 * 16 ^ p + r) * 1) (p + 0)
     kept k = rw (mul-one, one-mul) (record { places = add-zero p; leading = omega arith; below = omega arith; parity = λ e. e })

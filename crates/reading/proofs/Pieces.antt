@@ -2,8 +2,11 @@
 use mathlib.Core.Path.{_≡_, ap}
 use mathlib.Core.Bool.{Bool, true, false}
 use mathlib.Core.List.{List}
-use Prim.Native.Nat.{ℕ, _≤_}
+use mathlib.Core.Option.{some}
+use Prim.Native.Nat.{ℕ}
+use Prim.Native.Char.{code}
 use lib.Dec.{lit≤}
+use Rattle.writing.specs.Choose.{choose}
 use Rattle.numerals.specs.Digits.{digits, lettersOf}
 use Rattle.numerals.specs.Integers.{signed}
 use Rattle.numerals.specs.declared.NumericParam.{NumericParam}
@@ -14,40 +17,36 @@ use Rattle.layout.specs.declared.Prefix.{Prefix}
 use Rattle.layout.specs.declared.Prefix.the-variants.{NoPrefix}
 use Rattle.binary64.specs.HexFloat.{hexFloatOf, hexFloatText}
 use Rattle.reading.specs.Kept.{kept}
-use Rattle.reading.specs.Reading.{Reading, Integer, Bits, Float, reading, readPiece}
+use Rattle.reading.specs.Reading.{Integer, Bits, Float, reading, readFloat, readPiece}
 use Rattle.reading.proofs.Integers.{spaced, decimal-back, bits-back}
 use Rattle.reading.proofs.Floats.{scaledOf, hexPrefix, float-back}
 use Rattle.reading.proofs.Forms.{well-formed}
 
 -- %d: the integer with the mark's sign and the magnitude n.
 pub decimal-piece : (a : ℕ) (m : Mark) (z : ℕ) (body : List ℕ) (i j n : ℕ) → kept body ≡ lettersOf false (digits 10 n)
-    → readPiece 100 (spaced a m NoPrefix z body i j) ≡ Integer (signed (isMinus m) n)
+    → readPiece (code "d") (spaced a m NoPrefix z body i j) ≡ Integer (signed (isMinus m) n)
 unfolding readPiece
 decimal-piece a m z body i j n e = ap (reading Integer) (decimal-back a m z body i j n e)
 
--- %x, %X and %o: the letter with its base.
-abbrev pub bitsLetter : Bool → ℕ
-bitsLetter false = 120
-bitsLetter true = 88
-
-pub hex-piece : (v : Bool) (a : ℕ) (p : Prefix) (z : ℕ) (body : List ℕ) (i j n : ℕ) → kept body ≡ lettersOf false (digits 16 n)
-    → readPiece (bitsLetter v) (spaced a NoMark p z body i j) ≡ Bits n
+-- %x, %X and %o: the bits n.
+pub hex-piece : (u : Bool) (a : ℕ) (p : Prefix) (z : ℕ) (body : List ℕ) (i j n : ℕ) → kept body ≡ lettersOf false (digits 16 n)
+    → readPiece (choose u (λ _. code "X") (λ _. code "x")) (spaced a NoMark p z body i j) ≡ Bits n
 unfolding readPiece
 hex-piece false a p z body i j n e = ap (reading Bits) (bits-back a p z body i j 16 n (lit≤ tt) (lit≤ tt) e)
 hex-piece true a p z body i j n e = ap (reading Bits) (bits-back a p z body i j 16 n (lit≤ tt) (lit≤ tt) e)
 
 pub octal-piece : (a : ℕ) (p : Prefix) (z : ℕ) (body : List ℕ) (i j n : ℕ) → kept body ≡ lettersOf false (digits 8 n)
-    → readPiece 111 (spaced a NoMark p z body i j) ≡ Bits n
+    → readPiece (code "o") (spaced a NoMark p z body i j) ≡ Bits n
 unfolding readPiece
 octal-piece a p z body i j n e = ap (reading Bits) (bits-back a p z body i j 8 n (lit≤ tt) (lit≤ tt) e)
 
 -- %a and %A: the number that the parts make, which `Denotes` says more of.
-abbrev pub floatLetter : Bool → ℕ
-floatLetter false = 97
-floatLetter true = 65
+module _ (a : ℕ) (m : Mark) (w : Bool) (z : ℕ) (v : Bool) (b : ℕ) (p : NumericParam) (i j : ℕ) (c : closingByte m ≡ 0) where
+  parts-back : readFloat (kept (spaced a m (hexPrefix w) z (hexFloatText v (hexFloatOf b p)) i j)) ≡ some (scaledOf (isMinus m) (hexFloatOf b p))
+  parts-back = let k = well-formed b p in float-back a m w z v (hexFloatOf b p) i j c (k .one-digit) (k .below)
 
-pub float-piece : (v : Bool) (a : ℕ) (m : Mark) (w : Bool) (z : ℕ) (u : Bool) (b : ℕ) (p : NumericParam) (i j : ℕ) → closingByte m ≡ 0
-    → readPiece (floatLetter v) (spaced a m (hexPrefix w) z (hexFloatText u (hexFloatOf b p)) i j) ≡ Float (scaledOf (isMinus m) (hexFloatOf b p))
-unfolding readPiece
-float-piece false a m w z u b p i j c = let k = well-formed b p in ap (reading Float) (float-back a m w z u (hexFloatOf b p) i j c (k .one-digit) (k .below))
-float-piece true a m w z u b p i j c = let k = well-formed b p in ap (reading Float) (float-back a m w z u (hexFloatOf b p) i j c (k .one-digit) (k .below))
+  pub float-piece : (u : Bool) → readPiece (choose u (λ _. code "A") (λ _. code "a")) (spaced a m (hexPrefix w) z (hexFloatText v (hexFloatOf b p)) i j)
+      ≡ Float (scaledOf (isMinus m) (hexFloatOf b p))
+  unfolding readPiece
+  float-piece false = ap (reading Float) parts-back
+  float-piece true = ap (reading Float) parts-back

@@ -1,12 +1,12 @@
 -- Worked examples of the numeral layer's definitions, one table: what a definition gives, as text, and what it should be.
 use Prim.Native.Nat.{ℕ, _+_, _^_}
-use Prim.Native.Char.{Char, code}
-use Prim.Native.String.{String, [] as empty, _∷_ as _then_}
+use Prim.Native.Char.{code}
+use Prim.Native.String.{String}
 use mathlib.Core.Bool.{Bool, true, false, _&&_}
 use mathlib.Core.List.{List, [], _∷_, _++_}
 use lib.Dec.{eqb}
 use lib.IntN.{ℤ, pos, negsuc, natAbs}
-use Rattle.writing.specs.Choose.{choose}
+use Rattle.writing.specs.Text.{ascii}
 use Rattle.writing.specs.Laid.{laid}
 use Rattle.numerals.specs.Digits.{digitsIn, places, lettersOf, numberOf, numeral, decimal}
 use Rattle.numerals.specs.Grouping.{grouped}
@@ -28,30 +28,25 @@ use Rattle.reading.specs.Kept.{kept}
 use Rattle.reading.specs.Nearness.{wholeAt, valueAt, apart}
 use Rattle.reading.specs.Reading.{Reading, Unread, Integer, Bits, Float, readPiece}
 
--- an ASCII text's bytes
-abbrev pub ascii : String → List ℕ
-ascii empty = []
-ascii (c then s) = code c ∷ ascii s
-
 -- an integer, a parameter with the place behind it, and a reading (m, f and e of a float), each as text
 abbrev pub shownInt : ℤ → List ℕ
 shownInt (pos n) = decimal n
-shownInt (negsuc n) = 45 ∷ decimal (1 + n)
+shownInt (negsuc n) = code "-" ∷ decimal (1 + n)
 
 abbrev pub shownTaken : Taken → List ℕ
-shownTaken (Param (Literal n) next) = decimal n ++ (32 ∷ decimal next)
+shownTaken (Param (Literal n) next) = decimal n ++ (code " " ∷ decimal next)
 shownTaken (Param FromArgument next) = ascii "none " ++ decimal next
 shownTaken TooLarge = ascii "too large"
 
 abbrev pub shownSign : Bool → List ℕ
 shownSign false = []
-shownSign true = 45 ∷ []
+shownSign true = code "-" ∷ []
 
 abbrev pub shownReading : Reading → List ℕ
 shownReading Unread = ascii "unread"
 shownReading (Integer z) = shownInt z
 shownReading (Bits n) = decimal n
-shownReading (Float r) = shownSign (r .negative) ++ (decimal (r .m) ++ (32 ∷ (decimal (r .f) ++ (32 ∷ shownInt (r .e)))))
+shownReading (Float r) = shownSign (r .negative) ++ (decimal (r .m) ++ (code " " ∷ (decimal (r .f) ++ (code " " ∷ shownInt (r .e)))))
 
 abbrev pub shownCategory : FpCategory → List ℕ
 shownCategory Nan = ascii "NaN"
@@ -114,19 +109,19 @@ rows =
     ∷ record { given = hexFloatText false (hexFloatOf 1 (Literal 1)); text = "1.0p-1074" }
     ∷ record { given = hexFloatText false (hexFloatOf 1 (Literal 20)); text = "0.0000000000001p-1022" }
     ∷ record { given = kept (ascii " +1,2 F"); text = "12f" }
-    ∷ record { given = shownReading (readPiece 100 (ascii "  (1,234   )")); text = "-1234" }
-    ∷ record { given = shownReading (readPiece 100 (ascii "+007 ")); text = "7" }
-    ∷ record { given = shownReading (readPiece 100 (ascii "(7")); text = "unread" }
-    ∷ record { given = shownReading (readPiece 100 []); text = "unread" }
-    ∷ record { given = shownReading (readPiece 88 (ascii "0X00FF")); text = "255" }
-    ∷ record { given = shownReading (readPiece 120 (ascii "0")); text = "0" }
-    ∷ record { given = shownReading (readPiece 111 (ascii "  017")); text = "15" }
-    ∷ record { given = shownReading (readPiece 111 (ascii "18")); text = "unread" }
-    ∷ record { given = shownReading (readPiece 97 (ascii "-0x1.8p-3")); text = "-24 1 -3" }
-    ∷ record { given = shownReading (readPiece 65 (ascii "0X0001.08P10")); text = "264 2 10" }
-    ∷ record { given = shownReading (readPiece 97 (ascii " -0x0.0p0")); text = "-0 1 0" }
-    ∷ record { given = shownReading (readPiece 97 (ascii "0x1.p3")); text = "unread" }
-    ∷ record { given = shownReading (readPiece 115 (ascii "7")); text = "unread" }
+    ∷ record { given = shownReading (readPiece (code "d") (ascii "  (1,234   )")); text = "-1234" }
+    ∷ record { given = shownReading (readPiece (code "d") (ascii "+007 ")); text = "7" }
+    ∷ record { given = shownReading (readPiece (code "d") (ascii "(7")); text = "unread" }
+    ∷ record { given = shownReading (readPiece (code "d") []); text = "unread" }
+    ∷ record { given = shownReading (readPiece (code "X") (ascii "0X00FF")); text = "255" }
+    ∷ record { given = shownReading (readPiece (code "x") (ascii "0")); text = "0" }
+    ∷ record { given = shownReading (readPiece (code "o") (ascii "  017")); text = "15" }
+    ∷ record { given = shownReading (readPiece (code "o") (ascii "18")); text = "unread" }
+    ∷ record { given = shownReading (readPiece (code "a") (ascii "-0x1.8p-3")); text = "-24 1 -3" }
+    ∷ record { given = shownReading (readPiece (code "A") (ascii "0X0001.08P10")); text = "264 2 10" }
+    ∷ record { given = shownReading (readPiece (code "a") (ascii " -0x0.0p0")); text = "-0 1 0" }
+    ∷ record { given = shownReading (readPiece (code "a") (ascii "0x1.p3")); text = "unread" }
+    ∷ record { given = shownReading (readPiece (code "s") (ascii "7")); text = "unread" }
     ∷ record { given = decimal (wholeAt 10 3 1 (pos 2)); text = "768" }
     ∷ record { given = decimal (wholeAt 10 3 1 (negsuc 1)); text = "48" }
     ∷ record { given = decimal (valueAt 1076 1); text = "4" }

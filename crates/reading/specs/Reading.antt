@@ -1,10 +1,11 @@
 -- 01, "Reading a piece back": "The rule is fed the piece's bytes and the element's letter, nothing else." It answers a number or nothing.
 use Prim.Native.Nat.{ℕ, _+_, _-_, _*_}
+use Prim.Native.Char.{code}
 use mathlib.Core.Bool.{Bool, true, false, _&&_, _||_}
-use mathlib.Core.List.{List, [], _∷_, _++_}
+use mathlib.Core.List.{List, [], _∷_}
 use mathlib.Core.Option.{Option, none, some}
 use lib.Dec.{leb, ltb, eqb}
-use lib.IntN.{ℤ, pos, negℤ}
+use lib.IntN.{ℤ}
 use lib.ListN.{length}
 use Rattle.writing.specs.Choose.{choose}
 use Rattle.numerals.specs.Integers.{signed}
@@ -19,7 +20,8 @@ some a andThen f = f a
 -- The digit that a small letter stands for in a base.
 unfoldable pub digitOf : ℕ → ℕ → Option ℕ
 digitOf base c =
-    choose (leb 48 c && leb c 57) (λ _. below (c - 48)) (λ _. choose (leb 97 c && leb c 102) (λ _. below (c - 87)) (λ _. none))
+    choose (leb (code "0") c && leb c (code "9")) (λ _. below (c - code "0"))
+    (λ _. choose (leb (code "a") c && leb c (code "f")) (λ _. below (c - code "a" + 10)) (λ _. none))
   where
     below : ℕ → Option ℕ
     below d = choose (ltb d base) (λ _. some d) (λ _. none)
@@ -38,21 +40,21 @@ wholeNumber base (c ∷ cs) = digitsFrom base 0 (c ∷ cs)
 unfoldable pub withMinus : List ℕ → Option ℤ
 withMinus [] = none
 withMinus (c ∷ cs) =
-    choose (eqb c 45)
+    choose (eqb c (code "-"))
     (λ _. wholeNumber 10 cs andThen (λ n. some (signed true n)))
     (λ _. wholeNumber 10 (c ∷ cs) andThen (λ n. some (signed false n)))
 
 -- What stands before a closing bracket at the end.
 unfoldable pub beforeClose : List ℕ → Option (List ℕ)
 beforeClose [] = none
-beforeClose (c ∷ []) = choose (eqb c 41) (λ _. some []) (λ _. none)
+beforeClose (c ∷ []) = choose (eqb c (code ")")) (λ _. some []) (λ _. none)
 beforeClose (c ∷ d ∷ cs) = beforeClose (d ∷ cs) andThen (λ r. some (c ∷ r))
 
 -- "%d: decimal digits, negative after `-` or inside brackets."
 unfoldable pub readDecimal : List ℕ → Option ℤ
 readDecimal [] = none
 readDecimal (c ∷ cs) =
-    choose (eqb c 40)
+    choose (eqb c (code "("))
     (λ _. beforeClose cs andThen (λ ds. wholeNumber 10 ds andThen (λ n. some (signed true n))))
     (λ _. withMinus (c ∷ cs))
 
@@ -60,7 +62,7 @@ readDecimal (c ∷ cs) =
 unfoldable pub afterPrefix : List ℕ → Option (List ℕ)
 afterPrefix [] = none
 afterPrefix (c ∷ []) = none
-afterPrefix (c ∷ d ∷ cs) = choose (eqb c 48 && eqb d 120) (λ _. some cs) (λ _. none)
+afterPrefix (c ∷ d ∷ cs) = choose (eqb c (code "0") && eqb d (code "x")) (λ _. some cs) (λ _. none)
 
 -- "a leading `0x` or `0X` is dropped"
 abbrev pub orWhole : List ℕ → Option (List ℕ) → List ℕ
@@ -95,8 +97,8 @@ pub record Scaled : Type 0 where
 unfoldable pub readMagnitude : Bool → List ℕ → Option Scaled
 readMagnitude negative cs =
     afterPrefix cs andThen (λ ds.
-    cutAt 46 ds andThen (λ point.
-    cutAt 112 (point .back) andThen (λ power.
+    cutAt (code ".") ds andThen (λ point.
+    cutAt (code "p") (point .back) andThen (λ power.
     wholeNumber 16 (point .front) andThen (λ w.
     wholeNumber 16 (power .front) andThen (λ _.
     digitsFrom 16 w (power .front) andThen (λ m.
@@ -106,7 +108,7 @@ readMagnitude negative cs =
 -- "%a: mark, `0x`, .."
 unfoldable pub readFloat : List ℕ → Option Scaled
 readFloat [] = none
-readFloat (c ∷ cs) = choose (eqb c 45) (λ _. readMagnitude true cs) (λ _. readMagnitude false (c ∷ cs))
+readFloat (c ∷ cs) = choose (eqb c (code "-")) (λ _. readMagnitude true cs) (λ _. readMagnitude false (c ∷ cs))
 
 -- What a piece is read as: an integer, a pattern of bits, or a number with a power of two.
 pub data Reading : Type 0 where
@@ -119,10 +121,10 @@ abbrev pub reading : {A : Type 0} → (A → Reading) → Option A → Reading
 reading f none = Unread
 reading f (some a) = f a
 
--- The rule for a letter, as its byte: d; x and X; o; a and A.
+-- The rule for a letter, as its byte.
 unfoldable pub readPiece : ℕ → List ℕ → Reading
 readPiece letter piece =
-    choose (eqb letter 100) (λ _. reading Integer (readDecimal (kept piece)))
-    (λ _. choose (eqb letter 120 || eqb letter 88) (λ _. reading Bits (readBits 16 (kept piece)))
-    (λ _. choose (eqb letter 111) (λ _. reading Bits (readBits 8 (kept piece)))
-    (λ _. choose (eqb letter 97 || eqb letter 65) (λ _. reading Float (readFloat (kept piece))) (λ _. Unread))))
+    choose (eqb letter (code "d")) (λ _. reading Integer (readDecimal (kept piece)))
+    (λ _. choose (eqb letter (code "x") || eqb letter (code "X")) (λ _. reading Bits (readBits 16 (kept piece)))
+    (λ _. choose (eqb letter (code "o")) (λ _. reading Bits (readBits 8 (kept piece)))
+    (λ _. choose (eqb letter (code "a") || eqb letter (code "A")) (λ _. reading Float (readFloat (kept piece))) (λ _. Unread))))

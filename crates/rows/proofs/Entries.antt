@@ -4,23 +4,24 @@ use mathlib.Core.Path.{_≡_, ap}
 use mathlib.Core.Bool.{true, _&&_}
 use mathlib.Core.List.{List}
 use native.Mathlib.Omega.{arith}
-use lib.ListN.{length, getD, take, drop, length-drop}
-use lib.Seq.{take-all}
+use lib.ListN.{length, getD, take, drop}
+use borrow.Rule.Slice.PartAt.{part-to-end}
 use Rattle.conversions.specs.Kinds.{kindOf}
 use Rattle.rows.specs.Numbers.{numberAt}
 use Rattle.rows.specs.Row.{countOf, isNull, entryOf, entryAt, entriesFrom}
 
 -- The entry with the index i + 1, by the places that the code reads.
 pub entry-read : (row : List ℕ) (n i v : ℕ) → n ≡ countOf row → v ≡ numberAt 8 row (6 + n + 8 * i)
-    → entryOf (kindOf (getD row (6 + i) 0 % 128)) (isNull (getD row (6 + i) 0)) (take (length row - (6 + 9 * n)) (drop (6 + 9 * n) row)) v ≡ entryAt row (i + 1)
+    → entryOf (kindOf (getD row (6 + i) 0 % 128)) (isNull (getD row (6 + i) 0)) (take (length row - (6 + 9 * n)) (drop (6 + 9 * n) row)) v
+    ≡ entryAt row (i + 1)
 unfolding entryAt
 entry-read row n i v e f =
     let p : 5 + (i + 1) ≡ 6 + i = omega arith in
     let q : i + 1 - 1 ≡ i = omega arith in
-    let t : take (length row - (6 + 9 * n)) (drop (6 + 9 * n) row) ≡ drop (6 + 9 * n) row = take-all (length row - (6 + 9 * n)) (drop (6 + 9 * n) row) (simp length-drop (omega arith)) in
-    simp (t, f, p, q, ← e)
+    simp (part-to-end row (6 + 9 * n), f, p, q, ← e)
 
-pub entries-next : (row : List ℕ) (n i : ℕ) → i < n → entriesFrom (n - i) row (i + 1) ≡ (entryAt row (i + 1) && entriesFrom (n - (i + 1)) row (i + 1 + 1))
+pub entries-next : (row : List ℕ) (n i : ℕ) → i < n
+    → entriesFrom (n - i) row (i + 1) ≡ (entryAt row (i + 1) && entriesFrom (n - (i + 1)) row (i + 1 + 1))
 unfolding entriesFrom
 entries-next row n i h =
     let e : n - i ≡ suc (n - (i + 1)) = omega arith in

@@ -2,3 +2,4 @@ mod Numbers
 pub mod Widths
 mod Entries
 pub mod Rows
+pub mod Arguments

@@ -14,7 +14,9 @@ unfolding littleEndian
 joined [] t = sym (zero-add (1 * littleEndian t) ∙ one-mul (littleEndian t))
 joined (b ∷ s) t =
     let e = joined s t in
-    let p : 256 ^ suc (length s) * littleEndian t ≡ 256 * (256 ^ length s * littleEndian t) = ap (λ (n : ℕ). n * littleEndian t) (pow-succ' 256 (length s)) ∙ mul-assoc 256 (256 ^ length s) (littleEndian t) in
+    let v = littleEndian t in
+    let p : 256 ^ suc (length s) * v ≡ 256 * (256 ^ length s * v) =
+    ap (λ (n : ℕ). n * v) (pow-succ' 256 (length s)) ∙ mul-assoc 256 (256 ^ length s) v in
     omega arith
 
 pub number-add : (j k : ℕ) (s : List ℕ) (at : ℕ) → at + j ≤ length s → numberAt (j + k) s at ≡ numberAt j s at + 256 ^ j * numberAt k s (at + j)

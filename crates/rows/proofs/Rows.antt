@@ -1,7 +1,7 @@
 -- What a row that keeps its layout has. Assumes nothing.
 use Prim.Native.Nat.{ℕ, zero, suc, _+_, _-_, _*_, _^_, _≤_, _<_}
 use mathlib.Core.Path.{_≡_, refl, sym, ap, subst, _∙_}
-use mathlib.Core.Bool.{Bool, true, false, _&&_}
+use mathlib.Core.Bool.{Bool, true, false}
 use mathlib.Core.List.{List, [], _∷_}
 use native.Mathlib.Nat.{add-zero, pow-suc, one-le-pow}
 use native.Mathlib.Omega.{arith}
@@ -11,7 +11,8 @@ use lib.Seq.{getD-take, getD-drop, length-take-le}
 use borrow.Author.Tests.{leb-true, eqb-true}
 use borrow.Rule.Slice.PartAt.{part-to-end}
 use Rattle.rows.specs.Numbers.{numberAt, littleEndian}
-use Rattle.rows.specs.Row.{countOf, textSize, kindsOf, textOf, kindByteOf, valueOf, entryAt, entriesFrom, isRow, rowOf}
+use Rattle.rows.specs.Row.{mostValues, mostText, countOf, textSize, kindsOf, textOf, kindByteOf, valueOf, entryAt, entriesFrom, isRow}
+use Rattle.rows.specs.Arguments.{rowOf}
 use Rattle.rows.specs.declared.RowRead.{RowRead}
 use Rattle.rows.specs.declared.RowRead.the-variants.{Row, Broken}
 use Rattle.writing.specs.Choose.{choose}
@@ -28,8 +29,8 @@ one-of (suc k) row a e (suc i) h =
 
 -- What the tests of a layout say.
 record Layout (row : List ℕ) : Type 0 where
-  few : countOf row ≤ 64
-  short : textSize row ≤ 32768
+  few : countOf row ≤ mostValues
+  short : textSize row ≤ mostText
   whole : 6 + 9 * countOf row + textSize row ≡ length row
   entries : entriesFrom (countOf row) row 1 ≡ true
 
@@ -38,11 +39,11 @@ unfolding isRow
 layout row e =
     let p = both _ (entriesFrom (countOf row) row 1) e in
     let q = both _ (eqb (length row) (6 + 9 * countOf row + textSize row)) (p .0) in
-    let r = both _ (leb (textSize row) 32768) (q .0) in
-    let s = both (leb 6 (length row)) (leb (countOf row) 64) (r .0) in
+    let r = both _ (leb (textSize row) mostText) (q .0) in
+    let s = both (leb 6 (length row)) (leb (countOf row) mostValues) (r .0) in
     record {
-      few = leb-true (countOf row) 64 (s .1);
-      short = leb-true (textSize row) 32768 (r .1);
+      few = leb-true (countOf row) mostValues (s .1);
+      short = leb-true (textSize row) mostText (r .1);
       whole = sym (eqb-true (length row) (6 + 9 * countOf row + textSize row) (q .1));
       entries = p .1;
     }
@@ -71,7 +72,7 @@ kind-byte row a h k =
     getD-take (countOf row) (drop 6 row) (a - 1) 0 (omega arith) ∙ getD-drop 6 row (a - 1) 0 ∙ ap (λ (i : ℕ). getD row i 0) e
 
 module _ (row : List ℕ) (kept : isRow row ≡ true) where
-  pub row-shape : (6 + 9 * countOf row + textSize row ≡ length row) × (countOf row ≤ 64) × (textSize row ≤ 32768)
+  pub row-shape : (6 + 9 * countOf row + textSize row ≡ length row) × (countOf row ≤ mostValues) × (textSize row ≤ mostText)
   row-shape =
       let l = layout row kept in
       (l .whole, l .few, l .short)

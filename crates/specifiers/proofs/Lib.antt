@@ -1,3 +1,4 @@
 pub mod Bytes
-pub mod Runs
+mod Runs
 pub mod Places
+mod AtLetter

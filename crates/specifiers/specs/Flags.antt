@@ -1,8 +1,9 @@
 -- Flags. 01: "Flags in any number and order: `# 0 - space + , (`. Repeats pass."
 use Prim.Native.Nat.{ℕ, _+_}
+use Prim.Native.Char.{code}
 use mathlib.Core.Bool.{Bool, true, false}
 use mathlib.Core.List.{List, [], _∷_}
-use Rattle.conversions.specs.Letters.{named}
+use Rattle.conversions.specs.Letters.{lookup}
 use Rattle.specifiers.specs.declared.Flags.{Flags}
 use Rattle.specifiers.specs.declared.FlagStep.{FlagStep}
 use Rattle.specifiers.specs.declared.FlagStep.the-variants.{Set, Ends, Clash}
@@ -45,14 +46,9 @@ unlessSet false number g = Set g
 
 unfoldable pub flagOf : Flags → ℕ → FlagStep
 flagOf f b =
-    named "#" (Set (withAlt f)) b
-    (λ _. named "0" (unlessSet (f .left) 8 (withZero f)) b
-    (λ _. named "-" (Set (withLeft f)) b
-    (λ _. named " " (unlessSet (f .plus) 9 (withSpace f)) b
-    (λ _. named "+" (unlessSet (f .space) 9 (withPlus f)) b
-    (λ _. named "," (Set (withComma f)) b
-    (λ _. named "(" (Set (withBracket f)) b
-    (λ _. Ends)))))))
+    lookup code (λ x. x) Ends
+    (("#", Set (withAlt f)) ∷ ("0", unlessSet (f .left) 8 (withZero f)) ∷ ("-", Set (withLeft f)) ∷ (" ", unlessSet (f .plus) 9 (withSpace f))
+    ∷ ("+", unlessSet (f .space) 9 (withPlus f)) ∷ (",", Set (withComma f)) ∷ ("(", Set (withBracket f)) ∷ []) b
 
 -- The flags that a text begins with, from the place i on, after the flags f; and the place behind them.
 abbrev pub afterFlag : FlagStep → (Flags → FlagsTaken) → ℕ → Flags → FlagsTaken

@@ -1,14 +1,17 @@
--- How a cut falls back, and capitals. Assumes nothing.
+-- How a cut falls back, and what it leaves. Assumes nothing.
 use mathlib.Core.Path.{_≡_, refl}
 use mathlib.Core.Bool.{true, false}
-use mathlib.Core.List.{List, [], _∷_, map}
+use mathlib.Core.List.{List}
 use Prim.Native.Nat.{ℕ, zero, suc, _-_, _≤_, _<_}
 use native.Mathlib.Omega.{arith}
 use lib.Dec.{ltb}
-use lib.ListN.{length, getD}
-use borrow.Author.Tests.{le-leb, lt-leb, ltb-true, ltb-false}
+use lib.ListN.{length, getD, take, length-take}
+use lib.Seq.{take-all, length-take-le}
+use borrow.Author.Tests.{le-leb, lt-leb, le-ltb, ltb-true, ltb-false}
 use Rattle.writing.proofs.Choose.{by-test}
-use Rattle.strings.specs.Cut.{continues, backTo, cutLength, capital}
+use Rattle.numerals.specs.declared.NumericParam.{NumericParam}
+use Rattle.numerals.specs.declared.NumericParam.the-variants.{Literal, FromArgument}
+use Rattle.strings.specs.Cut.{continues, backTo, cutLength, cutTo}
 
 module _ (s : List ℕ) where
   pub back-start : (n : ℕ) → 0 < n → (continues (getD s n 0) ≡ false) → backTo n s ≡ n
@@ -42,6 +45,26 @@ module _ (s : List ℕ) where
       longer : length s ≤ n → (length s ≤ length s) × (length s ≤ n)
       longer h = (omega arith, h)
 
+  -- a text of no more than was asked is left whole
+  cut-whole : (n : ℕ) → length s ≤ n → cutLength n s ≡ length s
+  unfolding cutLength
+  cut-whole n h = simp (le-ltb n (length s) h)
+
+-- what a cut leaves is no longer, and a second cut leaves it as it is
+pub cut-shorter : (p : NumericParam) (s : List ℕ) → length (cutTo p s) ≤ length s
+unfolding cutTo
+cut-shorter FromArgument s = omega arith
+cut-shorter (Literal n) s = simp length-take (omega arith)
+
+pub cut-again : (p : NumericParam) (s : List ℕ) → cutTo p (cutTo p s) ≡ cutTo p s
+unfolding cutTo
+cut-again FromArgument s = refl
+cut-again (Literal n) s =
+    let w = cut-within s n in
+    let t = take (cutLength n s) s in
+    let l = length-take-le (cutLength n s) s (w .0) in
+    take-all (cutLength n t) t (omega (arith, l, cut-whole t n (omega (arith, l))))
+
 pub starts-below : (b : ℕ) → b < 128 → continues b ≡ false
 starts-below b h = simp (lt-leb 128 b h)
 
@@ -50,9 +73,3 @@ starts-above b h k = simp (le-leb 128 b h, lt-leb b 191 k)
 
 pub goes-on : (b : ℕ) → 128 ≤ b → b ≤ 191 → continues b ≡ true
 goes-on b h k = simp (le-leb 128 b h, le-leb b 191 k)
-
--- capitals, byte by byte
-pub upper-at : (t : List ℕ) (i : ℕ) → i < length t → getD (map capital t) i 0 ≡ capital (getD t i 0)
-upper-at [] i h = absurd (omega arith)
-upper-at (b ∷ t) zero h = refl
-upper-at (b ∷ t) (suc i) h = upper-at t i (omega arith)

@@ -48,7 +48,8 @@ any-range low high [] = refl
 any-range low high (b ∷ bs) = refl
 
 module _ (xs ys : List ℕ) (same : (n l h : ℕ) → wellFormedFrom n l h xs ≡ true → wellFormedFrom n l h (xs ++ ys) ≡ wellFormed ys) where
-  after-lead : (lead : Lead) → afterLead lead (λ n l h. wellFormedFrom n l h xs) ≡ true → afterLead lead (λ n l h. wellFormedFrom n l h (xs ++ ys)) ≡ wellFormed ys
+  after-lead : (lead : Lead) → afterLead lead (λ n l h. wellFormedFrom n l h xs) ≡ true
+      → afterLead lead (λ n l h. wellFormedFrom n l h (xs ++ ys)) ≡ wellFormed ys
   after-lead (Follow n l h) e = same n l h e
   after-lead NoLead e = cc
 

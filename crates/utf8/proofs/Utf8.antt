@@ -30,7 +30,18 @@ lead-one b h = simp (inside 0x00 0x7f b (omega arith) (omega arith))
 
 pub no-lead-below : (b : ℕ) → 0x80 ≤ b → b < 0xc2 → leadOf b ≡ NoLead
 unfolding leadOf
-no-lead-below b m n = simp (above 0x00 0x7f b (omega arith) (omega arith), below 0xc2 0xdf b (omega arith), below 0xe0 0xe0 b (omega arith), below 0xe1 0xec b (omega arith), below 0xed 0xed b (omega arith), below 0xee 0xef b (omega arith), below 0xf0 0xf0 b (omega arith), below 0xf1 0xf3 b (omega arith), below 0xf4 0xf4 b (omega arith))
+no-lead-below b m n =
+    simp (
+      above 0x00 0x7f b (omega arith) (omega arith),
+      below 0xc2 0xdf b (omega arith),
+      below 0xe0 0xe0 b (omega arith),
+      below 0xe1 0xec b (omega arith),
+      below 0xed 0xed b (omega arith),
+      below 0xee 0xef b (omega arith),
+      below 0xf0 0xf0 b (omega arith),
+      below 0xf1 0xf3 b (omega arith),
+      below 0xf4 0xf4 b (omega arith),
+    )
 
 pub lead-two : (b : ℕ) → 0xc2 ≤ b → b < 0xe0 → leadOf b ≡ Follow 1 0x80 0xbf
 unfolding leadOf
@@ -42,16 +53,41 @@ lead-three b m n e =
     simp (above 0x00 0x7f b (omega arith) (omega arith), above 0xc2 0xdf b (omega arith) (omega arith), above 0xe0 0xe0 b (omega arith) (omega arith))
     (elim (decLt b 0xed) [
       | yes p ↦ simp (inside 0xe1 0xec b (omega arith) (omega arith))
-      | no p ↦ simp (above 0xe1 0xec b (omega arith) (omega arith), above 0xed 0xed b (omega arith) (omega arith), inside 0xee 0xef b (omega arith) (omega arith))
+      | no p ↦ simp (
+        above 0xe1 0xec b (omega arith) (omega arith),
+        above 0xed 0xed b (omega arith) (omega arith),
+        inside 0xee 0xef b (omega arith) (omega arith),
+      )
     ])
 
 pub lead-four : (b : ℕ) → 0xf0 < b → b < 0xf4 → leadOf b ≡ Follow 3 0x80 0xbf
 unfolding leadOf
-lead-four b m n = simp (above 0x00 0x7f b (omega arith) (omega arith), above 0xc2 0xdf b (omega arith) (omega arith), above 0xe0 0xe0 b (omega arith) (omega arith), above 0xe1 0xec b (omega arith) (omega arith), above 0xed 0xed b (omega arith) (omega arith), above 0xee 0xef b (omega arith) (omega arith), above 0xf0 0xf0 b (omega arith) (omega arith), inside 0xf1 0xf3 b (omega arith) (omega arith))
+lead-four b m n =
+    simp (
+      above 0x00 0x7f b (omega arith) (omega arith),
+      above 0xc2 0xdf b (omega arith) (omega arith),
+      above 0xe0 0xe0 b (omega arith) (omega arith),
+      above 0xe1 0xec b (omega arith) (omega arith),
+      above 0xed 0xed b (omega arith) (omega arith),
+      above 0xee 0xef b (omega arith) (omega arith),
+      above 0xf0 0xf0 b (omega arith) (omega arith),
+      inside 0xf1 0xf3 b (omega arith) (omega arith),
+    )
 
 pub no-lead-above : (b : ℕ) → 0xf4 < b → leadOf b ≡ NoLead
 unfolding leadOf
-no-lead-above b h = simp (above 0x00 0x7f b (omega arith) (omega arith), above 0xc2 0xdf b (omega arith) (omega arith), above 0xe0 0xe0 b (omega arith) (omega arith), above 0xe1 0xec b (omega arith) (omega arith), above 0xed 0xed b (omega arith) (omega arith), above 0xee 0xef b (omega arith) (omega arith), above 0xf0 0xf0 b (omega arith) (omega arith), above 0xf1 0xf3 b (omega arith) (omega arith), above 0xf4 0xf4 b (omega arith) (omega arith))
+no-lead-above b h =
+    simp (
+      above 0x00 0x7f b (omega arith) (omega arith),
+      above 0xc2 0xdf b (omega arith) (omega arith),
+      above 0xe0 0xe0 b (omega arith) (omega arith),
+      above 0xe1 0xec b (omega arith) (omega arith),
+      above 0xed 0xed b (omega arith) (omega arith),
+      above 0xee 0xef b (omega arith) (omega arith),
+      above 0xf0 0xf0 b (omega arith) (omega arith),
+      above 0xf1 0xf3 b (omega arith) (omega arith),
+      above 0xf4 0xf4 b (omega arith) (omega arith),
+    )
 
 -- Read up to i, with `need` bytes to follow and the next of them between low and high, the rest of a text decides.
 pub record ReadTo (s : List ℕ) (i need low high : ℕ) : Type 0 where

@@ -204,7 +204,7 @@ fn is_answered(list: &[u8], format: usize, kinds: usize, answer: usize, expected
     requires { ⌜ (format < kinds) × (kinds ≤ answer) × (answer < length (now list)) ⌝ }
     ensures { λ r. ⌜ Same r (checked (between format (kinds - 1) (now (list .entry))) (between kinds answer (now (list .entry)))) expected ⌝ }
 {
-    let found = parsing::check(&list[format..kinds - 1], &list[kinds..answer]);
+    let found = printing::check(&list[format..kinds - 1], &list[kinds..answer]);
     is_same(found, expected)
 }
 

@@ -1,7 +1,8 @@
-//! Times this library, the original, snprintf and Java on the same rows, and prints tables in Markdown.
+//! Times this library, the original, snprintf, {fmt} and Java on the same rows, and prints tables in Markdown.
 //!
 //! Arguments: FOLDER (of Bench.class; files of callgrind go there), or `calls INDEX COUNT` to make calls on one row and nothing else.
 
+mod fmt;
 mod others;
 mod panel;
 mod rows;
@@ -13,6 +14,7 @@ use std::{env, fs, thread};
 
 use original::Formatter;
 
+use fmt::Fmt;
 use others::Java;
 use panel::{Panel, Snprintf};
 use rows::{Call, Row, SHEET_LINE, Series};
@@ -64,21 +66,25 @@ fn tables(folder: &Path) {
     println!("{}\n", machine(&measured));
     println!("Nanoseconds for a call; instructions for a call of this library.\n");
     println!(
-        "| Row | This library | Original, parse and format | Original, format only | snprintf | Java | Original / this | snprintf / this | Instructions |"
+        "| Row | This library | Original, parse and format | Original, format only | snprintf | {{fmt}} | {{fmt}} compiled | Java | Original / this | snprintf / this | {{fmt}} / this | Instructions |"
     );
-    println!("|---|---:|---:|---:|---:|---:|---:|---:|---:|");
+    println!("|---|---:|---:|---:|---:|---:|---:|---:|---:|---:|---:|---:|");
     for (index, (row, m)) in compared.iter().zip(&measured).enumerate() {
         let name = &row.name;
-        let star = if row.in_c.as_ref().is_some_and(|c| !c.same) { " *" } else { "" };
+        let differs = row.in_c.as_ref().is_some_and(|c| !c.same);
+        let starred = |ns: Option<f64>| time(ns) + if differs && ns.is_some() { " *" } else { "" };
         println!(
-            "| {name} | {} | {} | {} | {}{star} | {} | {} | {} | {} |",
+            "| {name} | {} | {} | {} | {} | {} | {} | {} | {} | {} | {} | {} |",
             time(Some(m.panel)),
             time(m.parse_and_format),
             time(m.format_only),
-            time(m.snprintf),
+            starred(m.snprintf),
+            starred(m.fmt),
+            starred(m.fmt_compiled),
             time(m.java.as_ref().map(|java| java.ns)),
             ratio(m.parse_and_format, m.panel),
             ratio(m.snprintf, m.panel),
+            ratio(m.fmt, m.panel),
             count(others::instructions(folder, index, row.call)),
         );
     }
@@ -98,6 +104,8 @@ struct Measured {
     parse_and_format: Option<f64>,
     format_only: Option<f64>,
     snprintf: Option<f64>,
+    fmt: Option<f64>,
+    fmt_compiled: Option<f64>,
     java: Option<Java>,
 }
 
@@ -108,42 +116,65 @@ impl Measured {
         self.parse_and_format = least(self.parse_and_format, again.parse_and_format);
         self.format_only = least(self.format_only, again.format_only);
         self.snprintf = least(self.snprintf, again.snprintf);
+        self.fmt = least(self.fmt, again.fmt);
+        self.fmt_compiled = least(self.fmt_compiled, again.fmt_compiled);
         if let (Some(java), Some(again)) = (&mut self.java, again.java) {
             java.ns = java.ns.min(again.ns);
         }
     }
 }
 
-/// All times of one row, after a look at the texts: the original's and Java's must be this library's, snprintf's too where the row says so.
+/// All times of one row, after a look at the texts: the original's and Java's must be this library's, those of snprintf and {fmt} too where the row
+/// says so.
 fn measure(folder: &Path, row: &Row) -> Measured {
     let mut panel = Panel::new(row);
     let Some(in_c) = &row.in_c else {
         let least = timing::least(&mut [Box::new(|calls| panel.run(calls)) as Calls]);
-        return Measured { panel: least[0], parse_and_format: None, format_only: None, snprintf: None, java: None };
+        return Measured {
+            panel: least[0],
+            parse_and_format: None,
+            format_only: None,
+            snprintf: None,
+            fmt: None,
+            fmt_compiled: None,
+            java: None,
+        };
     };
     let (types, values) = (row.data_types(), row.scalars());
     let formatter = Formatter::parse(&row.format, &types).expect("accepted");
     let text = formatter.format(&values).expect("printed");
     let mut snprintf = Snprintf::new(row, in_c);
+    let mut fmts = Fmt::both(row, in_c);
     panel.run(1);
     assert_eq!(panel.text(text.len()), text.as_bytes(), "{}: this library and the original differ", row.name);
     snprintf.run(1);
     assert_eq!(snprintf.text() == text.as_bytes(), in_c.same, "{}: snprintf says {:?}", row.name, snprintf.text());
+    for fmt in &mut fmts {
+        fmt.run(1);
+        assert_eq!(fmt.text() == text.as_bytes(), in_c.same, "{}: {{fmt}} says {:?}", row.name, fmt.text());
+    }
+    if let [runtime, compiled] = &fmts[..] {
+        assert_eq!(compiled.text(), runtime.text(), "{}: {{fmt}} compiled differs", row.name);
+    }
     let java = others::java(folder, row);
     if let Some(java) = &java {
         assert_eq!(java.text, text, "{}: Java and the original differ", row.name);
     }
-    let least = timing::least(&mut [
-        Box::new(|calls| panel.run(calls)) as Calls,
+    let mut subjects: Vec<Calls> = vec![
+        Box::new(|calls| panel.run(calls)),
         Box::new(|calls| others::parse_and_format(&row.format, &types, &values, calls)),
         Box::new(|calls| others::format_only(&formatter, &values, calls)),
         Box::new(|calls| snprintf.run(calls)),
-    ]);
+    ];
+    subjects.extend(fmts.iter_mut().map(|fmt| Box::new(|calls| fmt.run(calls)) as Calls));
+    let least = timing::least(&mut subjects);
     Measured {
         panel: least[0],
         parse_and_format: Some(least[1]),
         format_only: Some(least[2]),
         snprintf: Some(least[3]),
+        fmt: least.get(4).copied(),
+        fmt_compiled: least.get(5).copied(),
         java,
     }
 }
@@ -176,19 +207,28 @@ fn growth(folder: &Path, series: &Series, least: &[f64], index: &mut usize) {
     }
 }
 
-/// The values of the rows, and where snprintf's text is another.
+/// The values of the rows, and where the text of snprintf and {fmt} is another.
 fn notes(compared: &[Row]) {
+    // Outside a table `|` needs no escape.
+    let name = |row: &Row| row.name.replace("\\|", "|");
     println!("Values:\n");
     for row in compared {
         let format = if row.name == SHEET_LINE { format!(", `{}`", row.format) } else { "".to_owned() };
-        println!("- {}{format}: {}", row.name, row.show());
+        println!("- {}{format}: {}", name(row), row.show());
     }
-    println!("\n\\* snprintf's text is another:\n");
+    println!("\n\\* The text is another:\n");
     for row in compared {
         let Some(in_c) = row.in_c.as_ref().filter(|in_c| !in_c.same) else { continue };
         let mut snprintf = Snprintf::new(row, in_c);
         snprintf.run(1);
-        println!("- {}: `{}` prints `{}`", row.name, in_c.format, String::from_utf8_lossy(snprintf.text()));
+        let printed = |by: &str, format: &str, text: &[u8]| {
+            println!("- {}, {by}: `{format}` prints `{}`", name(row), String::from_utf8_lossy(text))
+        };
+        printed("snprintf", &in_c.format, snprintf.text());
+        if let Some(fmt) = Fmt::both(row, in_c).first_mut() {
+            fmt.run(1);
+            printed("{fmt}", &in_c.fmt, fmt.text());
+        }
     }
 }
 
@@ -201,9 +241,10 @@ fn machine(measured: &[Measured]) -> String {
     let model = cpu.lines().find_map(|line| line.strip_prefix("model name")?.split_once(": ")).map_or("CPU", |p| p.1);
     let java = measured.iter().find_map(|m| m.java.as_ref()).map_or("none", |java| &java.version);
     format!(
-        "{date}; {cores} cores, {model}; load {load} at the start. gcc {}, glibc {}, Java {java}.",
+        "{date}; {cores} cores, {model}; load {load} at the start. gcc {}, glibc {}, {{fmt}} {}, Java {java}.",
         panel::compiler(),
-        panel::c_library()
+        panel::c_library(),
+        fmt::version()
     )
 }
 

@@ -32,7 +32,7 @@ unsafe extern "C" {
 }
 
 /// Bytes lent for the longest text of any row.
-const ROOM: usize = 131_072;
+pub const ROOM: usize = 131_072;
 const ENDS: usize = 512;
 
 /// This library on one row.

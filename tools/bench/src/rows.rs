@@ -1,4 +1,4 @@
-//! The rows that are timed: formats, values, and what snprintf is given for them.
+//! The rows that are timed: formats, values, and what snprintf and {fmt} are given for them.
 
 use arrow::datatypes::DataType;
 use datafusion_common::ScalarValue;
@@ -65,7 +65,7 @@ impl Value {
     }
 }
 
-/// What snprintf takes besides the format; the order is that of calls.c.
+/// What snprintf and {fmt} take besides the format; the order is that of calls.c and calls_fmt.cpp.
 #[derive(Clone, Copy)]
 pub enum Shape {
     Nothing,
@@ -73,14 +73,18 @@ pub enum Shape {
     Floating,
     Text,
     Sheet,
+    Four,
     Fifteen,
     Thirty,
 }
 
+/// What snprintf and {fmt} are given.
 pub struct InC {
     pub shape: Shape,
     pub format: String,
-    /// Whether snprintf's text is the same.
+    /// {fmt}'s format.
+    pub fmt: String,
+    /// Whether their text is the same as this library's.
     pub same: bool,
 }
 
@@ -106,12 +110,12 @@ impl Row {
         Row { name: name.to_owned(), call, format, values, in_c: None }
     }
 
-    fn compared(name: &str, format: &str, values: Vec<Value>, shape: Shape) -> Row {
-        let in_c = InC { shape, format: format.to_owned(), same: true };
+    fn compared(name: &str, format: &str, fmt: &str, values: Vec<Value>, shape: Shape) -> Row {
+        let in_c = InC { shape, format: format.to_owned(), fmt: fmt.to_owned(), same: true };
         Row { in_c: Some(in_c), ..Row::alone(name, Call::Print, format.to_owned(), values) }
     }
 
-    /// With another format for snprintf, or the same one, and another text.
+    /// With another format for snprintf, or the same one, and another text from it and from {fmt}.
     fn differing(mut self, format: &str) -> Row {
         let in_c = self.in_c.as_mut().expect("a compared row");
         in_c.format = format.to_owned();
@@ -181,6 +185,10 @@ impl Row {
         self.values.iter().find_map(float).unwrap_or(0.0)
     }
 
+    pub fn boolean(&self) -> bool {
+        self.values.iter().any(|v| matches!(v, Value::Boolean(true)))
+    }
+
     pub fn text(&self) -> &'static str {
         let text = |v: &Value| if let Value::Text(v) = *v { Some(v) } else { None };
         self.values.iter().find_map(text).unwrap_or("")
@@ -189,24 +197,39 @@ impl Row {
 
 pub const SHEET_LINE: &str = "sheet line";
 const NUMBER: Value = Value::Int32(1_234_567);
+const POSITION: Value = Value::Int32(0x1a2b3c);
 const PI: Value = Value::Float(std::f64::consts::PI);
 
 /// The rows of the first table; the last is measured and timed for this library alone.
 pub fn compared() -> Vec<Row> {
     let integers = |count: i32| (0..count).map(|i| Value::Int32(1_234_567 + i)).collect::<Vec<_>>();
-    let sheet = vec![Value::Int8(7), Value::Int32(0x1a2b3c), NUMBER, Value::Boolean(true), Value::Text("North weir")];
+    let sheet = vec![Value::Int8(7), POSITION, NUMBER, Value::Boolean(true), Value::Text("North weir")];
+    let columns = vec![NUMBER, NUMBER, POSITION, POSITION];
     vec![
-        Row::compared(SHEET_LINE, "gate %d pos %08x delay %,d open %b name %-12s", sheet, Shape::Sheet)
-            .differing("gate %d pos %08x delay %d open %s name %-12s"),
-        Row::compared("`%d`", "%d", vec![NUMBER], Shape::Integer),
-        Row::compared("`%x`", "%x", vec![Value::Int32(0x1a2b3c)], Shape::Integer),
-        Row::compared("`%a`", "%a", vec![PI], Shape::Floating).differing("%a"),
-        Row::compared("`%.6a`", "%.6a", vec![PI], Shape::Floating).differing("%.6a"),
-        Row::compared("`%20.8s`", "%20.8s", vec![Value::Text("North weir, left gate")], Shape::Text),
-        Row::compared("15 times `%d` and a space", &"%d ".repeat(15), integers(15), Shape::Fifteen),
-        Row::compared("30 times `%d`", &"%d".repeat(30), integers(30), Shape::Thirty),
-        Row::compared("200 bytes of text", &plain(200), vec![], Shape::Nothing),
-        Row::compared("`%10000d`", "%10000d", vec![NUMBER], Shape::Integer),
+        Row::compared(
+            SHEET_LINE,
+            "gate %d pos %08x delay %,d open %b name %-12s",
+            "gate {:d} pos {:08x} delay {:d} open {} name {:<12s}",
+            sheet,
+            Shape::Sheet,
+        )
+        .differing("gate %d pos %08x delay %d open %s name %-12s"),
+        Row::compared(
+            "`%-20d\\|%10d\\|%#x\\|%o`",
+            "%-20d|%10d|%#x|%o",
+            "{:<20d}|{:10d}|{:#x}|{:o}",
+            columns,
+            Shape::Four,
+        ),
+        Row::compared("`%d`", "%d", "{}", vec![NUMBER], Shape::Integer),
+        Row::compared("`%x`", "%x", "{:x}", vec![POSITION], Shape::Integer),
+        Row::compared("`%a`", "%a", "{:a}", vec![PI], Shape::Floating).differing("%a"),
+        Row::compared("`%.6a`", "%.6a", "{:.6a}", vec![PI], Shape::Floating).differing("%.6a"),
+        Row::compared("`%20.8s`", "%20.8s", "{:>20.8s}", vec![Value::Text("North weir, left gate")], Shape::Text),
+        Row::compared("15 times `%d` and a space", &"%d ".repeat(15), &"{} ".repeat(15), integers(15), Shape::Fifteen),
+        Row::compared("30 times `%d`", &"%d".repeat(30), &"{}".repeat(30), integers(30), Shape::Thirty),
+        Row::compared("200 bytes of text", &plain(200), &plain(200), vec![], Shape::Nothing),
+        Row::compared("`%10000d`", "%10000d", "{:10000d}", vec![NUMBER], Shape::Integer),
         Row::alone("`%2147483647d`, measured", Call::Measure, "%2147483647d".to_owned(), vec![NUMBER]),
     ]
 }
@@ -246,7 +269,7 @@ pub fn series() -> Vec<Series> {
     ]
 }
 
-/// Text without `%`.
+/// Text without `%` and braces.
 fn plain(length: usize) -> String {
     "gate position text ".chars().cycle().take(length).collect()
 }

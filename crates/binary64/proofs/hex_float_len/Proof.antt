@@ -27,7 +27,9 @@ add-result-3 c =
     omega (arith, c .before .before .exponent-len .ensures false, exponent-length false (h .exponent) (h .bias) (search needs) (search needs))
 
 returns : tie.Need-returns
-returns c = λ u. let h = c .before .before .before .args .h in omega (arith, hex-length u h, c .before .before .exponent-len .ensures u)
+returns c = λ u.
+    let counted = c .before .before in
+    omega (arith, hex-length u (counted .before .args .h), counted .exponent-len .ensures u)
 
 pub hex-float-len-spec : {M : Type 1} → statement M
 hex-float-len-spec =

@@ -30,13 +30,9 @@ normal-requires c κs =
 returns : tie.Need-returns
 returns c =
     let e = c .before .to-parts .ensures in
-    simp (
-      c .before .before .before .before .before .precision .given .1,
-      lt-ltb _ _ (c .before .before .before .if1 .taken),
-      ← c .before .before .scale-up .ensures,
-      ← e .1,
-      ← e .2,
-    ) (c .normal .ensures)
+    let scaled = c .before .before in
+    let then = scaled .before in
+    simp (then .before .before .precision .given .1, lt-ltb _ _ (then .if1 .taken), ← scaled .scale-up .ensures, ← e .1, ← e .2) (c .normal .ensures)
 
 unscaled-requires-2 : tie.Need-unscaled-requires-2
 unscaled-requires-2 c κs = search needs

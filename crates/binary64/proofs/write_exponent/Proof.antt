@@ -1,5 +1,5 @@
 -- `binary64::write_exponent` meets its contract: the letter and perhaps a sign are stored, and the digits written behind them. Assumes nothing.
-use mathlib.Core.Path.{ap, _∙_}
+use mathlib.Core.Path.{_≡_, ap, _∙_}
 use mathlib.Core.List.{[], _∷_}
 use Prim.Native.Nat.{_+_, _-_, _≤_}
 use native.Mathlib.Omega.{arith}
@@ -7,8 +7,9 @@ use lib.Dec.{lit≤}
 use lib.ListN.{length, length-set, length-take, length-drop}
 use borrow.Author.Needs.{needs}
 use Rattle.writing.proofs.Laid.{length-laid}
+use Rattle.numerals.proofs.Digits.{length-lettersIn}
 use Rattle.binary64.specs.HexFloat.{exponentText}
-use Rattle.binary64.proofs.Texts.{below-text, above-text, below-length, above-length, exponent-length, exponent-laid}
+use Rattle.binary64.proofs.Texts.{below-text, above-text, below-length, above-length, exponent-length, exponent-wrote}
 use Rattle.binary64.proofs.write_exponent.Statement.{statement}
 use Rattle.binary64.proofs.write_exponent.Tie as tie
 
@@ -52,25 +53,33 @@ part-write-digits-end c = search needs
 write-digits-requires : tie.Need-write-digits-requires
 write-digits-requires c κs = (lit≤ tt, lit≤ tt, simp (length-take, length-drop, length-set) (omega (arith, room (c .before))))
 
+written : (c : tie.After-write-digits) → c .write-digits .result ≡ c .before .before .decimal-len .result
+written c = c .write-digits .ensures .0 ∙ length-lettersIn _ 10 _ _
+
 add-result : tie.Need-add-result
-add-result c = omega (arith, room (c .before .before .before .before), c .before .before .write-digits .ensures .0)
+add-result c =
+    let wrote = c .before .before in
+    omega (arith, room (wrote .before .before), written wrote)
 
 returns : tie.Need-returns
 returns c =
-    let a = c .before .before .before .before .before .before .before .before .args in
-    let b = c .before .before .before .before .before .before .exponent-letter in
-    let n = c .before .before .before .before .decimal-len in
-    let x = c .before .before .write-digits in
-    let h = c .before .before .before .before .before .if1 .taken in (
-      omega (arith, x .ensures .0, n .ensures, below-length (a .upper) (a .exponent) (a .bias) h),
-      exponent-laid (a .upper) (a .exponent) (a .bias) (45 ∷ []) (a .bias - a .exponent) (below-text (a .upper) (a .exponent) (a .bias) h) (a .out .now) (x .last .0)
-          (b .result) (n .result) (b .ensures) (n .ensures) (c .before .before .before .before .before .before .before .before .pre) (x .ensures .1),
-    )
+    let wrote = c .before .before in
+    let counted = wrote .before .before in
+    let then = counted .before in
+    let lettered = then .before in
+    let start = lettered .before .before in
+    let a = start .args in
+    exponent-wrote (a .upper) (a .exponent) (a .bias) (45 ∷ []) (a .bias - a .exponent) (below-text (a .upper) (a .exponent) (a .bias) (then .if1 .taken))
+    (a .out .now) (lettered .exponent-letter .result) (lettered .exponent-letter .ensures) (start .pre)
+    (wrote .write-digits .last .0) (counted .decimal-len .result) (wrote .write-digits .result)
+    (counted .decimal-len .ensures) (wrote .write-digits .ensures)
 
 same-length : tie.Need-same-length
 same-length c =
-    let a = c .before .before .before .before .before .before .before .before .args in
-    ap length (returns c .1) ∙ length-laid (a .out .now) (exponentText (a .upper) (a .exponent) (a .bias)) (c .before .before .before .before .before .before .before .before .pre)
+    let counted = c .before .before .before .before in
+    let start = counted .before .before .before .before in
+    let a = start .args in
+    ap length (returns c .1) ∙ length-laid (a .out .now) (exponentText (a .upper) (a .exponent) (a .bias)) (start .pre)
 
 cast-above : tie.Need-cast-above
 cast-above c = search needs
@@ -96,25 +105,33 @@ part-write-digits-end-2 c = search needs
 write-digits-requires-2 : tie.Need-write-digits-requires-2
 write-digits-requires-2 c κs = (lit≤ tt, lit≤ tt, simp (length-take, length-drop, length-set) (omega (arith, room-2 (c .before))))
 
+written-2 : (c : tie.After-write-digits2) → c .write-digits2 .result ≡ c .before .before .decimal-len2 .result
+written-2 c = c .write-digits2 .ensures .0 ∙ length-lettersIn _ 10 _ _
+
 add-result-2 : tie.Need-add-result-2
-add-result-2 c = omega (arith, room-2 (c .before .before .before .before), c .before .before .write-digits2 .ensures .0)
+add-result-2 c =
+    let wrote = c .before .before in
+    omega (arith, room-2 (wrote .before .before), written-2 wrote)
 
 returns-2 : tie.Need-returns-2
 returns-2 c =
-    let a = c .before .before .before .before .before .before .before .before .args in
-    let b = c .before .before .before .before .before .before .exponent-letter in
-    let n = c .before .before .before .before .decimal-len2 in
-    let x = c .before .before .write-digits2 in
-    let h = c .before .before .before .before .before .if1 .left in (
-      omega (arith, x .ensures .0, n .ensures, above-length (a .upper) (a .exponent) (a .bias) h),
-      exponent-laid (a .upper) (a .exponent) (a .bias) [] (a .exponent - a .bias) (above-text (a .upper) (a .exponent) (a .bias) h) (a .out .now) (x .last .0)
-          (b .result) (n .result) (b .ensures) (n .ensures) (c .before .before .before .before .before .before .before .before .pre) (x .ensures .1),
-    )
+    let wrote = c .before .before in
+    let counted = wrote .before .before in
+    let else = counted .before in
+    let lettered = else .before in
+    let start = lettered .before .before in
+    let a = start .args in
+    exponent-wrote (a .upper) (a .exponent) (a .bias) [] (a .exponent - a .bias) (above-text (a .upper) (a .exponent) (a .bias) (else .if1 .left))
+    (a .out .now) (lettered .exponent-letter .result) (lettered .exponent-letter .ensures) (start .pre)
+    (wrote .write-digits2 .last .0) (counted .decimal-len2 .result) (wrote .write-digits2 .result)
+    (counted .decimal-len2 .ensures) (wrote .write-digits2 .ensures)
 
 same-length-2 : tie.Need-same-length-2
 same-length-2 c =
-    let a = c .before .before .before .before .before .before .before .before .args in
-    ap length (returns-2 c .1) ∙ length-laid (a .out .now) (exponentText (a .upper) (a .exponent) (a .bias)) (c .before .before .before .before .before .before .before .before .pre)
+    let counted = c .before .before .before .before in
+    let start = counted .before .before .before .before in
+    let a = start .args in
+    ap length (returns-2 c .1) ∙ length-laid (a .out .now) (exponentText (a .upper) (a .exponent) (a .bias)) (start .pre)
 
 pub write-exponent-spec : {M : Type 1} → statement M
 write-exponent-spec =

@@ -5,6 +5,13 @@ use Rattle.conversions.specs.Letters.{conversionOf}
 use Rattle.conversions.proofs.conversion_of.Statement.{statement}
 use Rattle.conversions.proofs.conversion_of.Tie as tie
 
+no-letter : tie.Need-returns-20
+unfolding conversionOf
+no-letter c =
+    let ((((((((((r, n10), n11), n12), n13), n14), n15), n16), n17), n18), n19) = c .match .rest in
+    let (((((((((u, n1), n2), n3), n4), n5), n6), n7), n8), n9) = r in
+    simp ne-eqb
+
 pub conversion-of-spec : {M : Type 1} → statement M
 unfolding conversionOf
 conversion-of-spec =
@@ -29,4 +36,4 @@ conversion-of-spec =
     (λ c. sym (ap conversionOf (c .match .keys17)))
     (λ c. sym (ap conversionOf (c .match .keys18)))
     (λ c. sym (ap conversionOf (c .match .keys19)))
-    (λ c. let (((((((((((((((((((u, n1), n2), n3), n4), n5), n6), n7), n8), n9), n10), n11), n12), n13), n14), n15), n16), n17), n18), n19) = c .match .rest in simp ne-eqb))
+    no-letter)

@@ -5,6 +5,13 @@ use Rattle.conversions.specs.Letters.{timeOf}
 use Rattle.conversions.proofs.time_of.Statement.{statement}
 use Rattle.conversions.proofs.time_of.Tie as tie
 
+no-letter : tie.Need-returns-32
+unfolding timeOf
+no-letter c =
+    let ((((((((((((((((r, n16), n17), n18), n19), n20), n21), n22), n23), n24), n25), n26), n27), n28), n29), n30), n31) = c .match .rest in
+    let (((((((((((((((u, n1), n2), n3), n4), n5), n6), n7), n8), n9), n10), n11), n12), n13), n14), n15) = r in
+    simp ne-eqb
+
 pub time-of-spec : {M : Type 1} → statement M
 unfolding timeOf
 time-of-spec =
@@ -41,4 +48,4 @@ time-of-spec =
     (λ c. sym (ap timeOf (c .match .keys29)))
     (λ c. sym (ap timeOf (c .match .keys30)))
     (λ c. sym (ap timeOf (c .match .keys31)))
-    (λ c. let (((((((((((((((((((((((((((((((u, n1), n2), n3), n4), n5), n6), n7), n8), n9), n10), n11), n12), n13), n14), n15), n16), n17), n18), n19), n20), n21), n22), n23), n24), n25), n26), n27), n28), n29), n30), n31) = c .match .rest in simp ne-eqb))
+    no-letter)

@@ -1,10 +1,6 @@
 -- `layout::frame_len` meets its contract. Assumes nothing.
-use Prim.Native.Nat.{ℕ}
-use mathlib.Core.Path.{_≡_, ap, _∙_}
-use lib.ListN.{length}
 use native.Mathlib.Omega.{arith}
-use Rattle.layout.specs.Frame.{byteText, closingByte}
-use Rattle.layout.proofs.Lengths.{head-length, tail-length}
+use Rattle.layout.proofs.Lengths.{head-length, tail-length, same-byte}
 use borrow.Author.Needs.{needs}
 use Rattle.layout.proofs.frame_len.Statement.{statement}
 use Rattle.layout.proofs.frame_len.Tie as tie
@@ -41,9 +37,9 @@ add-result-2 c = search needs
 
 returns : tie.Need-returns
 returns c =
-    let f = c .before .before .before .before .before .before .args .f in
-    let e : c .byte-len .result ≡ length (byteText (closingByte (f .mark))) = c .byte-len .ensures .0 ∙ ap (λ (b : ℕ). length (byteText b)) (c .before .closing-byte .ensures) in
-    omega (arith, head-length f, tail-length f)
+    let summed = c .before .before .before in
+    let f = summed .before .before .before .args .f in
+    omega (arith, head-length f, tail-length f, same-byte _ _ _ (c .byte-len .ensures .0) (c .before .closing-byte .ensures))
 
 pub frame-len-spec : {M : Type 1} → statement M
 frame-len-spec =

@@ -1,10 +1,9 @@
 -- `layout::marks_len` meets its contract. Assumes nothing.
-use Prim.Native.Nat.{ℕ}
-use mathlib.Core.Path.{_≡_, ap, _∙_}
+use mathlib.Core.Path.{_≡_}
 use lib.ListN.{length}
 use native.Mathlib.Omega.{arith}
 use Rattle.layout.specs.Frame.{byteText, openingByte, prefixZero, prefixLetter}
-use Rattle.layout.proofs.Lengths.{three-length}
+use Rattle.layout.proofs.Lengths.{three-length, same-byte}
 use borrow.Author.Needs.{needs}
 use Rattle.layout.proofs.marks_len.Statement.{statement}
 use Rattle.layout.proofs.marks_len.Tie as tie
@@ -35,13 +34,15 @@ add-result-2 c = search needs
 
 returns : tie.Need-returns
 returns c =
-    let a = c .before .before .before .before .before .before .args in
-    let m = a .mark in
-    let p = a .prefix in
-    let e₁ : c .before .before .before .before .byte-len .result ≡ length (byteText (openingByte m)) = c .before .before .before .before .byte-len .ensures .0 ∙ ap (λ (b : ℕ). length (byteText b)) (c .before .before .before .before .before .opening-byte .ensures) in
-    let e₂ : c .before .before .byte-len2 .result ≡ length (byteText (prefixZero p)) = c .before .before .byte-len2 .ensures .0 ∙ ap (λ (b : ℕ). length (byteText b)) (c .before .before .before .prefix-zero .ensures) in
-    let e₃ : c .byte-len3 .result ≡ length (byteText (prefixLetter p)) = c .byte-len3 .ensures .0 ∙ ap (λ (b : ℕ). length (byteText b)) (c .before .prefix-letter .ensures) in
-    (omega (arith, three-length (openingByte m) (prefixZero p) (prefixLetter p)), omega arith)
+    let letter = c .before in
+    let second = letter .before in
+    let zero = second .before in
+    let first = zero .before in
+    let a = first .before .before .args in
+    let e₁ : _ ≡ length (byteText (openingByte (a .mark))) = same-byte _ _ _ (first .byte-len .ensures .0) (first .before .opening-byte .ensures) in
+    let e₂ : _ ≡ length (byteText (prefixZero (a .prefix))) = same-byte _ _ _ (second .byte-len2 .ensures .0) (zero .prefix-zero .ensures) in
+    let e₃ : _ ≡ length (byteText (prefixLetter (a .prefix))) = same-byte _ _ _ (c .byte-len3 .ensures .0) (letter .prefix-letter .ensures) in
+    (omega (arith, three-length (openingByte (a .mark)) (prefixZero (a .prefix)) (prefixLetter (a .prefix))), omega arith)
 
 pub marks-len-spec : {M : Type 1} → statement M
 marks-len-spec =

@@ -13,13 +13,22 @@ prefix-letter-requires : tie.Need-prefix-letter-requires
 prefix-letter-requires c κs = search needs
 
 write-bytes-requires : tie.Need-write-bytes-requires
-write-bytes-requires c κs = simp (c .before .before .before .opening-byte .ensures, c .before .before .prefix-zero .ensures, c .before .prefix-letter .ensures) (c .before .before .before .before .before .pre)
+write-bytes-requires c κs =
+    let letter = c .before in
+    let zero = letter .before in
+    let opening = zero .before in
+    simp (opening .opening-byte .ensures, zero .prefix-zero .ensures, letter .prefix-letter .ensures) (opening .before .before .pre)
 
 same-length : tie.Need-same-length
 same-length c = search needs
 
 returns : tie.Need-returns
-returns c = simp (c .before .before .before .before .before .before .opening-byte .ensures, c .before .before .before .before .before .prefix-zero .ensures, c .before .before .before .before .prefix-letter .ensures) at (c .before .before .write-bytes .ensures)
+returns c =
+    let wrote = c .before .before in
+    let letter = wrote .before .before in
+    let zero = letter .before in
+    let opening = zero .before in
+    simp (opening .opening-byte .ensures, zero .prefix-zero .ensures, letter .prefix-letter .ensures) at (wrote .write-bytes .ensures)
 
 pub write-marks-spec : {M : Type 1} → statement M
 write-marks-spec =

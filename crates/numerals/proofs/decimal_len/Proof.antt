@@ -1,10 +1,10 @@
 -- `numerals::decimal_len` meets its contract. The loop's invariant: the places counted so far and those of the quotient are together the places of x.
 -- Assumes nothing.
 use Prim.Native.Nat.{_+_}
-use mathlib.Core.Path.{_≡_, ap, _∙_}
+use mathlib.Core.Path.{_≡_}
 use native.Mathlib.Omega.{arith}
 use Rattle.numerals.specs.Digits.{places}
-use Rattle.numerals.proofs.Digits.{places-four, places-le, places-pos}
+use Rattle.numerals.proofs.Digits.{places-four, twenty-places}
 use borrow.Author.Needs.{needs}
 use Rattle.numerals.proofs.decimal_len.Statement.{statement}
 use Rattle.numerals.proofs.decimal_len.Tie as tie
@@ -19,7 +19,7 @@ loop-holds : tie.Need-loop-holds Inv-loop μ-loop
 loop-holds c = search needs
 
 add-n : tie.Need-add-n Inv-loop μ-loop
-add-n c = omega (arith, places-le 10 19 (c .before .before .args .x) (omega arith) (omega arith))
+add-n c = omega (arith, twenty-places (c .before .before .args .x) (omega arith))
 
 loop-less : tie.Need-loop-less Inv-loop μ-loop
 loop-less c = search needs
@@ -31,7 +31,7 @@ short-len-requires : tie.Need-short-len-requires Inv-loop μ-loop
 short-len-requires c κs = search needs
 
 add-result : tie.Need-add-result Inv-loop μ-loop
-add-result c = omega (arith, c .short-len .ensures, places-le 10 19 (c .before .before .before .args .x) (omega arith) (omega arith))
+add-result c = omega (arith, c .short-len .ensures, twenty-places (c .before .before .before .args .x) (omega arith))
 
 returns : tie.Need-returns Inv-loop μ-loop
 returns c = omega (arith, c .short-len .ensures)

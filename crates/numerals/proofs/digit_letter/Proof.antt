@@ -5,11 +5,11 @@ use borrow.Author.Needs.{needs}
 use Rattle.numerals.proofs.digit_letter.Statement.{statement}
 use Rattle.numerals.proofs.digit_letter.Tie as tie
 
+cast-n : tie.Need-cast-n
+cast-n c = search needs
+
 add-result : tie.Need-add-result
 add-result c = search needs
-
-cast-result : tie.Need-cast-result
-cast-result c = search needs
 
 returns : tie.Need-returns
 unfolding letterOf
@@ -18,9 +18,6 @@ returns c = simp (lt-ltb _ _ (c .if1 .taken))
 add-result-2 : tie.Need-add-result-2
 add-result-2 c = search needs
 
-cast-result-2 : tie.Need-cast-result-2
-cast-result-2 c = search needs
-
 returns-2 : tie.Need-returns-2
 unfolding letterOf
 returns-2 c = simp (le-ltb _ _ (c .before .if1 .left), c .if2 .taken)
@@ -28,23 +25,9 @@ returns-2 c = simp (le-ltb _ _ (c .before .if1 .left), c .if2 .taken)
 add-result-3 : tie.Need-add-result-3
 add-result-3 c = search needs
 
-cast-result-3 : tie.Need-cast-result-3
-cast-result-3 c = search needs
-
 returns-3 : tie.Need-returns-3
 unfolding letterOf
 returns-3 c = simp (le-ltb _ _ (c .before .if1 .left), c .if2 .left)
 
 pub digit-letter-spec : {M : Type 1} → statement M
-digit-letter-spec =
-    tie.close
-    (tie.spec
-    add-result
-    cast-result
-    returns
-    add-result-2
-    cast-result-2
-    returns-2
-    add-result-3
-    cast-result-3
-    returns-3)
+digit-letter-spec = tie.close (tie.spec cast-n add-result returns add-result-2 returns-2 add-result-3 returns-3)

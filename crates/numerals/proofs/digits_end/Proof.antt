@@ -23,14 +23,16 @@ shared-slice-read-byte c = search needs
 
 returns : tie.Need-returns Inv-loop μ-loop
 returns c =
-    let l = c .before .before .before .loop in
-    let s = c .before .before .before .before .args .s .now in
+    let at-loop = c .before .before .before in
+    let l = at-loop .loop in
+    let s = at-loop .before .args .s .now in
     omega (arith, l .inv, ap length (below-digit s (l .end) (omega arith) (omega arith)))
 
 returns-2 : tie.Need-returns-2 Inv-loop μ-loop
 returns-2 c =
-    let l = c .before .before .before .before .loop in
-    let s = c .before .before .before .before .before .args .s .now in
+    let at-loop = c .before .before .before .before in
+    let l = at-loop .loop in
+    let s = at-loop .before .args .s .now in
     omega (arith, l .inv, ap length (above-digit s (l .end) (omega arith) (omega arith)))
 
 add-end : tie.Need-add-end Inv-loop μ-loop
@@ -41,8 +43,9 @@ loop-less c = search needs
 
 loop-again : tie.Need-loop-again Inv-loop μ-loop
 loop-again c =
-    let l = c .before .before .before .before .loop in
-    let s = c .before .before .before .before .before .args .s .now in
+    let at-loop = c .before .before .before .before in
+    let l = at-loop .loop in
+    let s = at-loop .before .args .s .now in
     omega (arith, l .inv, ap length (digit-at s (l .end) (omega arith) (omega arith) (omega arith)))
 
 returns-3 : tie.Need-returns-3 Inv-loop μ-loop

@@ -2,7 +2,7 @@
 use Prim.Native.Nat.{ℕ}
 use mathlib.Core.Path.{sym, ap, _∙_}
 use Rattle.numerals.specs.Digits.{places}
-use Rattle.numerals.proofs.Lengths.{base-ten}
+use Rattle.numerals.proofs.Bases.{base-ten}
 use borrow.Author.Needs.{needs}
 use Rattle.numerals.proofs.digits_len.Statement.{statement}
 use Rattle.numerals.proofs.digits_len.Tie as tie
@@ -30,8 +30,9 @@ decimal-len-requires c κs = search needs
 
 returns-3 : tie.Need-returns-3
 returns-3 c =
-    let a = c .before .before .before .args in
-    c .decimal-len .ensures ∙ ap (λ (b : ℕ). places b (a .value)) (sym (base-ten (a .base) (c .before .before .before .pre) (c .before .before .if1 .left) (c .before .if2 .left)))
+    let start = c .before .before .before in
+    let e = base-ten (start .args .base) (start .pre) (c .before .before .if1 .left) (c .before .if2 .left) in
+    c .decimal-len .ensures ∙ ap (λ (b : ℕ). places b (start .args .x)) (sym e)
 
 pub digits-len-spec : {M : Type 1} → statement M
 digits-len-spec =

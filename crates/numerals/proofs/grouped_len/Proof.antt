@@ -1,6 +1,6 @@
 -- `numerals::grouped_len` meets its contract: a comma for each three digits past the first three or fewer. Assumes nothing.
 use native.Mathlib.Omega.{arith}
-use Rattle.numerals.proofs.Digits.{places-pos, places-le}
+use Rattle.numerals.proofs.Digits.{places-pos, twenty-places}
 use Rattle.numerals.proofs.Grouping.{length-grouped-decimal}
 use borrow.Author.Needs.{needs}
 use Rattle.numerals.proofs.grouped_len.Statement.{statement}
@@ -13,7 +13,7 @@ sub-result : tie.Need-sub-result
 sub-result c = omega (arith, places-pos 10 (c .before .args .x) (omega arith))
 
 add-result : tie.Need-add-result
-add-result c = omega (arith, places-le 10 19 (c .before .args .x) (omega arith) (omega arith))
+add-result c = omega (arith, twenty-places (c .before .args .x) (omega arith))
 
 returns : tie.Need-returns
 returns c = omega (arith, length-grouped-decimal (c .before .args .x))

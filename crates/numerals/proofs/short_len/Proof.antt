@@ -16,7 +16,12 @@ returns-2 c =
 returns-3 : tie.Need-returns-3
 returns-3 c =
     let x = c .before .before .before .args .x in
-    omega (arith, places-more 10 x (omega arith) (omega arith), places-more 10 (x / 10) (omega arith) (omega arith), places-small 10 (x / 10 / 10) (omega arith))
+    omega (
+      arith,
+      places-more 10 x (omega arith) (omega arith),
+      places-more 10 (x / 10) (omega arith) (omega arith),
+      places-small 10 (x / 10 / 10) (omega arith),
+    )
 
 returns-4 : tie.Need-returns-4
 returns-4 c =

@@ -1,35 +1,39 @@
--- `numerals::take_number` meets its contract. The loop's invariant: the value of the digits read, followed by the digits from i on, is the whole number. Assumes nothing.
+-- `numerals::take_number` meets its contract. The loop's invariant: the value of the digits read, followed by the digits from i on, is the whole number.
+-- Assumes nothing.
 use Prim.Native.Nat.{_≤_, _-_}
 use lib.ListN.{length}
 use native.Mathlib.Omega.{arith}
+use Rattle.numerals.specs.Params.{largestNumber}
 use Rattle.numerals.proofs.Params.{ReadTo, read-none, end-of-text, below-digit, above-digit, read-end, read-digit, read-large}
 use borrow.Author.Needs.{needs}
 use Rattle.numerals.proofs.take_number.Statement.{statement}
 use Rattle.numerals.proofs.take_number.Tie as tie
 
 abbrev Inv-loop : tie.InvT-loop
-Inv-loop s at i₀ value₀ i value = (i ≤ length s) × (value ≤ 2147483647) × ReadTo s at i value
+Inv-loop s at i₀ value₀ i value = (value ≤ largestNumber) × ReadTo s at i value
 
 abbrev μ-loop : tie.MeasureT-loop
 μ-loop s at i₀ value₀ i value = length s - i
 
 loop-holds : tie.Need-loop-holds Inv-loop μ-loop
-loop-holds c = (omega arith, omega arith, read-none (c .args .s .now) (c .args .at))
+loop-holds c = (omega arith, read-none (c .args .s .now) (c .args .at))
 
 shared-slice-read-b : tie.Need-shared-slice-read-b Inv-loop μ-loop
 shared-slice-read-b c = search needs
 
 returns : tie.Need-returns Inv-loop μ-loop
 returns c =
-    let l = c .before .before .before .loop in
-    let a = c .before .before .before .before .args in
-    read-end (a .s .now) (l .i) (a .at) (l .value) (l .inv .2) (below-digit (a .s .now) (l .i) (omega arith) (omega arith)) (omega arith)
+    let at-loop = c .before .before .before in
+    let l = at-loop .loop in
+    let a = at-loop .before .args in
+    read-end (a .s .now) (l .i) (a .at) (l .value) (l .inv .1) (below-digit (a .s .now) (l .i) (omega arith) (omega arith)) (omega arith)
 
 returns-2 : tie.Need-returns-2 Inv-loop μ-loop
 returns-2 c =
-    let l = c .before .before .before .before .loop in
-    let a = c .before .before .before .before .before .args in
-    read-end (a .s .now) (l .i) (a .at) (l .value) (l .inv .2) (above-digit (a .s .now) (l .i) (omega arith) (omega arith)) (omega arith)
+    let at-loop = c .before .before .before .before in
+    let l = at-loop .loop in
+    let a = at-loop .before .args in
+    read-end (a .s .now) (l .i) (a .at) (l .value) (l .inv .1) (above-digit (a .s .now) (l .i) (omega arith) (omega arith)) (omega arith)
 
 cast-digit : tie.Need-cast-digit Inv-loop μ-loop
 cast-digit c = search needs
@@ -39,9 +43,11 @@ sub-if3 c = search needs
 
 returns-3 : tie.Need-returns-3 Inv-loop μ-loop
 returns-3 c =
-    let l = c .before .before .before .before .before .loop in
-    let a = c .before .before .before .before .before .before .args in
-    read-large (a .s .now) (l .i) (a .at) (l .value) (l .inv .2) (omega arith) (omega arith) (omega arith) (omega arith)
+    let in-turn = c .before .before in
+    let at-loop = in-turn .before .before .before in
+    let l = at-loop .loop in
+    let a = at-loop .before .args in
+    read-large (a .s .now) (l .i) (a .at) (l .value) (l .inv .1) (omega arith) (omega arith) (omega arith) (omega arith)
 
 mul-value : tie.Need-mul-value Inv-loop μ-loop
 mul-value c = search needs
@@ -57,15 +63,17 @@ loop-less c = search needs
 
 loop-again : tie.Need-loop-again Inv-loop μ-loop
 loop-again c =
-    let l = c .before .before .before .before .before .loop in
-    let a = c .before .before .before .before .before .before .args in
-    (omega arith, omega arith, read-digit (a .s .now) (l .i) (a .at) (l .value) (l .inv .2) (omega arith) (omega arith) (omega arith))
+    let in-turn = c .before .before in
+    let at-loop = in-turn .before .before .before in
+    let l = at-loop .loop in
+    let a = at-loop .before .args in
+    (omega arith, read-digit (a .s .now) (l .i) (a .at) (l .value) (l .inv .1) (omega arith) (omega arith) (omega arith))
 
 returns-4 : tie.Need-returns-4 Inv-loop μ-loop
 returns-4 c =
     let l = c .before .loop in
     let a = c .before .before .args in
-    read-end (a .s .now) (l .i) (a .at) (l .value) (l .inv .2) (end-of-text (a .s .now) (l .i) (omega arith)) (omega arith)
+    read-end (a .s .now) (l .i) (a .at) (l .value) (l .inv .1) (end-of-text (a .s .now) (l .i) (omega arith)) (omega arith)
 
 pub take-number-spec : {M : Type 1} → statement M
 take-number-spec =

@@ -1,11 +1,26 @@
 -- `numerals::take_numeric_param` meets its contract. Assumes nothing.
 use mathlib.Core.Bool.{true, false}
-use mathlib.Core.Path.{sym, _∙_}
+use mathlib.Core.Path.{_≡_, sym, ap, _∙_}
 use native.Mathlib.Omega.{arith}
+use Rattle.numerals.specs.Params.{paramOf, paramAt}
+use Rattle.numerals.specs.declared.Taken.{Taken}
 use Rattle.numerals.proofs.Params.{param-at, param-past}
 use borrow.Author.Needs.{needs}
 use Rattle.numerals.proofs.take_numeric_param.Statement.{statement}
 use Rattle.numerals.proofs.take_numeric_param.Tie as tie
+
+-- the parameter that stands at the place
+abbrev here : tie.After-begins-param → Taken
+here c = let a = c .before .before .before .before .args in paramAt (a .zero) (a .s .now) (a .at)
+
+-- the number read is the parameter's
+taken : (c : tie.After-take-number) → paramOf (c .take-number .result) ≡ here (c .before .before)
+taken c =
+    let then = c .before in
+    let begins = then .before in
+    let a = begins .before .before .before .before .args in
+    ap paramOf (c .take-number .ensures)
+    ∙ param-at (a .zero) (a .s .now) (a .at) true (omega arith) (sym (then .if2 .taken) ∙ begins .begins-param .ensures)
 
 shared-slice-read-begins-param : tie.Need-shared-slice-read-begins-param
 shared-slice-read-begins-param c = search needs
@@ -16,18 +31,26 @@ begins-param-requires c κs = search needs
 take-number-requires : tie.Need-take-number-requires
 take-number-requires c κs = search needs
 
+enum-known-value : tie.Need-enum-known-value
+enum-known-value c = search needs
+
+enum-told : tie.Need-enum-told
+enum-told c = search needs
+
 returns : tie.Need-returns
-returns c =
-    let a = c .before .before .before .before .before .before .args in
-    c .take-number .ensures ∙ param-at (a .zero) (a .s .now) (a .at) true (omega arith) (sym (c .before .if2 .taken) ∙ c .before .before .begins-param .ensures)
+returns c = sym (ap paramOf (c .enum-told .given .1)) ∙ taken (c .before .before)
 
 returns-2 : tie.Need-returns-2
-returns-2 c =
-    let a = c .before .before .before .before .before .args in
-    param-at (a .zero) (a .s .now) (a .at) false (omega arith) (sym (c .if2 .left) ∙ c .before .begins-param .ensures)
+returns-2 c = sym (ap paramOf (c .before .value .given .1)) ∙ taken (c .before .before .before)
 
 returns-3 : tie.Need-returns-3
 returns-3 c =
+    let begins = c .before in
+    let a = begins .before .before .before .before .args in
+    param-at (a .zero) (a .s .now) (a .at) false (omega arith) (sym (c .if2 .left) ∙ begins .begins-param .ensures)
+
+returns-4 : tie.Need-returns-4
+returns-4 c =
     let a = c .before .before .args in
     param-past (a .zero) (a .s .now) (a .at) (omega arith)
 
@@ -38,6 +61,9 @@ take-numeric-param-spec =
     shared-slice-read-begins-param
     begins-param-requires
     take-number-requires
+    enum-known-value
+    enum-told
     returns
     returns-2
-    returns-3)
+    returns-3
+    returns-4)

@@ -1,9 +1,4 @@
 -- `numerals::write_digits` meets its contract. Assumes nothing.
-use Prim.Native.Nat.{ℕ}
-use mathlib.Core.Path.{_≡_, ap, _∙_}
-use native.Mathlib.Omega.{arith}
-use Rattle.writing.specs.Laid.{laid}
-use Rattle.numerals.specs.Digits.{digitsIn, lettersOf}
 use borrow.Author.Needs.{needs}
 use Rattle.numerals.proofs.write_digits.Statement.{statement}
 use Rattle.numerals.proofs.write_digits.Tie as tie
@@ -15,10 +10,7 @@ same-length : tie.Need-same-length
 same-length c = search needs
 
 returns : tie.Need-returns
-returns c =
-    let a = c .before .before .before .before .before .before .args in
-    let e : 10 ≡ a .base = omega arith in
-    (c .before .before .write-places .ensures .0, c .before .before .write-places .ensures .1 ∙ ap (λ (b : ℕ). laid (a .out .now) (lettersOf (a .upper) (digitsIn b (a .n) (a .x)))) e)
+returns c = let wrote = c .before .before in simp (wrote .before .before .if1 .taken) (wrote .write-places .ensures)
 
 write-places-requires-2 : tie.Need-write-places-requires-2
 write-places-requires-2 c κs = search needs
@@ -27,10 +19,7 @@ same-length-2 : tie.Need-same-length-2
 same-length-2 c = search needs
 
 returns-2 : tie.Need-returns-2
-returns-2 c =
-    let a = c .before .before .before .before .before .before .before .args in
-    let e : 16 ≡ a .base = omega arith in
-    (c .before .before .write-places2 .ensures .0, c .before .before .write-places2 .ensures .1 ∙ ap (λ (b : ℕ). laid (a .out .now) (lettersOf (a .upper) (digitsIn b (a .n) (a .x)))) e)
+returns-2 c = let wrote = c .before .before in simp (wrote .before .before .if2 .taken) (wrote .write-places2 .ensures)
 
 write-places-requires-3 : tie.Need-write-places-requires-3
 write-places-requires-3 c κs = search needs
@@ -39,10 +28,7 @@ same-length-3 : tie.Need-same-length-3
 same-length-3 c = search needs
 
 returns-3 : tie.Need-returns-3
-returns-3 c =
-    let a = c .before .before .before .before .before .before .before .before .args in
-    let e : 8 ≡ a .base = omega arith in
-    (c .before .before .write-places3 .ensures .0, c .before .before .write-places3 .ensures .1 ∙ ap (λ (b : ℕ). laid (a .out .now) (lettersOf (a .upper) (digitsIn b (a .n) (a .x)))) e)
+returns-3 c = let wrote = c .before .before in simp (wrote .before .before .if3 .taken) (wrote .write-places3 .ensures)
 
 write-places-requires-4 : tie.Need-write-places-requires-4
 write-places-requires-4 c κs = search needs

@@ -1,5 +1,7 @@
--- `numerals::write_grouped` meets its contract. The loop's invariant: the bytes from place i on are stored, and v with the digits since the last comma gives those before them. Assumes nothing.
+-- `numerals::write_grouped` meets its contract. The loop's invariant: the bytes from place i on are stored, and v with the digits since the last comma
+-- gives those before them. Assumes nothing.
 use Prim.Native.Nat.{ℕ, _+_, _/_, _≤_}
+use Prim.Native.Char.{code}
 use mathlib.Core.Path.{sym, ap, _∙_}
 use native.Mathlib.Omega.{arith}
 use borrow.Author.Tests.{eq-eqb, ne-eqb}
@@ -19,17 +21,14 @@ Inv-loop out₀ x n v₀ run₀ i₀ out v run i =
 abbrev μ-loop : tie.MeasureT-loop
 μ-loop out₀ x n v₀ run₀ i₀ out v run i = i
 
-grouped-len-requires : tie.Need-grouped-len-requires Inv-loop μ-loop
-grouped-len-requires c κs = search needs
-
 loop-holds : tie.Need-loop-holds Inv-loop μ-loop
 loop-holds c =
-    let a = c .before .before .args in
-    let n = c .grouped-len .result in (
+    let start = c .before in
+    let a = start .args in (
       omega arith,
       omega arith,
-      written-none groupByte groupNext (a .out .now) (grouped (decimal (a .x))) n (a .x, 0)
-          (grouped-right (a .x) ∙ ap (λ (k : ℕ). fromRight groupByte groupNext k (a .x, 0)) (sym (c .grouped-len .ensures))),
+      written-none groupByte groupNext (a .out .now) (grouped (decimal (a .x))) (a .n) (a .x, 0)
+          (grouped-right (a .x) ∙ ap (λ (k : ℕ). fromRight groupByte groupNext k (a .x, 0)) (sym (start .pre .0))),
     )
 
 sub-i : tie.Need-sub-i Inv-loop μ-loop
@@ -44,11 +43,12 @@ loop-less c = search needs
 loop-again : tie.Need-loop-again Inv-loop μ-loop
 loop-again c =
     let l = c .before .before .loop in
-    let a = c .before .before .before .before .before .args in
+    let a = c .before .before .before .before .args in
     let e = eq-eqb (l .run) 3 (c .if1 .taken) in (
       omega arith,
       omega arith,
-      written-turn groupByte groupNext (a .out .now) (grouped (decimal (a .x))) (l .out) (l .i) (l .v, l .run) (l .v, 0) 44 (omega arith) (omega arith) (simp e) (simp e) (l .inv .2),
+      written-turn groupByte groupNext (a .out .now) (grouped (decimal (a .x))) (l .out) (l .i) (l .v, l .run) (l .v, 0) (code ",")
+          (omega arith) (omega arith) (simp e) (simp e) (l .inv .2),
     )
 
 digit-letter-requires : tie.Need-digit-letter-requires Inv-loop μ-loop
@@ -65,12 +65,14 @@ loop-less-2 c = search needs
 
 loop-again-2 : tie.Need-loop-again-2 Inv-loop μ-loop
 loop-again-2 c =
-    let l = c .before .before .before .loop in
-    let a = c .before .before .before .before .before .before .args in
+    let at-loop = c .before .before .before in
+    let l = at-loop .loop in
+    let a = at-loop .before .before .args in
     let e = ne-eqb (l .run) 3 (c .before .if1 .left) in (
       omega arith,
       omega arith,
-      written-turn groupByte groupNext (a .out .now) (grouped (decimal (a .x))) (l .out) (l .i) (l .v, l .run) (l .v / 10, l .run + 1) (c .digit-letter .result)
+      written-turn groupByte groupNext (a .out .now) (grouped (decimal (a .x))) (l .out) (l .i) (l .v, l .run) (l .v / 10, l .run + 1)
+          (c .digit-letter .result)
           (omega arith) (omega arith) (simp e (sym (c .digit-letter .ensures))) (simp e) (l .inv .2),
     )
 
@@ -80,8 +82,9 @@ same-length c = search needs
 returns : tie.Need-returns Inv-loop μ-loop
 returns c =
     let l = c .before .loop in
-    let a = c .before .before .before .before .args in (
-      c .before .before .grouped-len .ensures,
+    let start = c .before .before .before in
+    let a = start .args in (
+      start .pre .0,
       written-all groupByte groupNext (a .out .now) (grouped (decimal (a .x))) (l .out) (l .i) (l .v, l .run) (omega arith) (l .inv .2),
     )
 
@@ -91,7 +94,6 @@ write-grouped-spec =
     (tie.spec
     Inv-loop
     μ-loop
-    grouped-len-requires
     loop-holds
     sub-i
     slice-write-out

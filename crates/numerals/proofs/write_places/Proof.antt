@@ -1,10 +1,11 @@
--- `numerals::write_places` meets its contract. The loop's invariant: the letters from place i on are stored, and v gives those before them. Assumes nothing.
+-- `numerals::write_places` meets its contract. The loop's invariant: the letters from place i on are stored, and v gives those before them.
+-- Assumes nothing.
 use Prim.Native.Nat.{_/_, _≤_}
 use mathlib.Core.Path.{refl, sym}
 use native.Mathlib.Nat.{mod-lt}
 use native.Mathlib.Omega.{arith}
 use Rattle.numerals.specs.Digits.{digitsIn, lettersOf}
-use Rattle.numerals.proofs.Digits.{digitByte, digitNext, digits-right}
+use Rattle.numerals.proofs.Digits.{digitByte, digitNext, digits-right, length-lettersIn}
 use Rattle.writing.proofs.Backwards.{Written, written-none, written-turn, written-all}
 use borrow.Author.Needs.{needs}
 use Rattle.numerals.proofs.write_places.Statement.{statement}
@@ -19,9 +20,11 @@ abbrev μ-loop : tie.MeasureT-loop
 
 loop-holds : tie.Need-loop-holds Inv-loop μ-loop
 loop-holds c =
-    let a = c .before .args in (
+    let a = c .before .args in
+    let text = lettersOf (a .upper) (digitsIn (a .base) (a .n) (a .x)) in (
       omega arith,
-      written-none (digitByte (a .upper) (a .base)) (digitNext (a .base)) (a .out .now) (lettersOf (a .upper) (digitsIn (a .base) (a .n) (a .x))) (a .n) (a .x) (digits-right (a .upper) (a .base) (a .n) (a .x)),
+      written-none (digitByte (a .upper) (a .base)) (digitNext (a .base)) (a .out .now) text (a .n) (a .x)
+          (digits-right (a .upper) (a .base) (a .n) (a .x)),
     )
 
 sub-i : tie.Need-sub-i Inv-loop μ-loop
@@ -45,10 +48,12 @@ loop-less c = search needs
 loop-again : tie.Need-loop-again Inv-loop μ-loop
 loop-again c =
     let l = c .before .before .loop in
-    let a = c .before .before .before .before .args in (
+    let a = c .before .before .before .before .args in
+    let text = lettersOf (a .upper) (digitsIn (a .base) (a .n) (a .x)) in (
       omega arith,
-      written-turn (digitByte (a .upper) (a .base)) (digitNext (a .base)) (a .out .now) (lettersOf (a .upper) (digitsIn (a .base) (a .n) (a .x))) (l .out) (l .i) (l .v) (l .v / a .base) (c .digit-letter .result) (omega arith) (omega arith)
-          (sym (c .digit-letter .ensures)) refl (l .inv .1),
+      written-turn (digitByte (a .upper) (a .base)) (digitNext (a .base)) (a .out .now) text
+          (l .out) (l .i) (l .v) (l .v / a .base) (c .digit-letter .result)
+          (omega arith) (omega arith) (sym (c .digit-letter .ensures)) refl (l .inv .1),
     )
 
 same-length : tie.Need-same-length Inv-loop μ-loop
@@ -58,7 +63,10 @@ returns : tie.Need-returns Inv-loop μ-loop
 returns c =
     let l = c .before .loop in
     let a = c .before .before .before .args in
-    (refl, written-all (digitByte (a .upper) (a .base)) (digitNext (a .base)) (a .out .now) (lettersOf (a .upper) (digitsIn (a .base) (a .n) (a .x))) (l .out) (l .i) (l .v) (omega arith) (l .inv .1))
+    let text = lettersOf (a .upper) (digitsIn (a .base) (a .n) (a .x)) in (
+      sym (length-lettersIn (a .upper) (a .base) (a .n) (a .x)),
+      written-all (digitByte (a .upper) (a .base)) (digitNext (a .base)) (a .out .now) text (l .out) (l .i) (l .v) (omega arith) (l .inv .1),
+    )
 
 pub write-places-spec : {M : Type 1} → statement M
 write-places-spec =

@@ -1,6 +1,8 @@
 -- `parsing::take_index` meets its contract. Assumes nothing.
 use mathlib.Core.Path.{sym, _∙_}
+use Prim.Native.Nat.{_+_, _≤_, _<_}
 use native.Mathlib.Omega.{arith}
+use borrow.Author.Tests.{le-leb, lt-leb}
 use Rattle.parsing.specs.Pieces.{indexAt}
 use Rattle.parsing.proofs.Indexes.{index-inside}
 use borrow.Author.Needs.{needs}
@@ -17,50 +19,81 @@ returns c = simp (← c .before .is-byte .ensures, c .if1 .taken)
 is-index-requires : tie.Need-is-index-requires
 is-index-requires c κs = search needs
 
-take-numeric-param-requires : tie.Need-take-numeric-param-requires
-take-numeric-param-requires c κs = search needs
+take-number-requires : tie.Need-take-number-requires
+take-number-requires c κs = search needs
 
-enum-known-param : tie.Need-enum-known-param
-enum-known-param c = search needs
+enum-known-value : tie.Need-enum-known-value
+enum-known-value c = search needs
 
 enum-told : tie.Need-enum-told
 enum-told c = search needs
 
 returns-2 : tie.Need-returns-2
 unfolding indexAt
-returns-2 c = simp (← c .before .before .before .before .before .before .is-byte .ensures, c .before .before .before .before .before .if1 .left, ← c .before .before .before .before .is-index .ensures, c .before .before .before .if2 .taken, ← c .before .before .take-numeric-param .ensures, c .enum-told .given .1)
+returns-2 c =
+    let number = c .before .before in
+    let index = number .before .before in
+    simp (
+      ← index .before .before .is-byte .ensures,
+      index .before .if1 .left,
+      ← index .is-index .ensures,
+      number .before .if2 .taken,
+      ← number .take-number .ensures,
+      c .enum-told .given .1,
+    )
 
-enum-known-param-2 : tie.Need-enum-known-param-2
-enum-known-param-2 c = search needs
+cast-named : tie.Need-cast-named
+cast-named c = search needs
 
-enum-told-2 : tie.Need-enum-told-2
-enum-told-2 c = search needs
+add-named : tie.Need-add-named
+add-named c =
+    let number = c .before .before .before in
+    let index = number .before .before in
+    let a = index .before .before .before .before .args in
+    let inside =
+    index-inside (a .fmt .now) (a .at) (sym (index .is-index .ensures) ∙ number .before .if2 .taken) _ _
+    (sym (number .take-number .ensures) ∙ c .before .value .given .1) in
+    omega arith
+
+named-requires : tie.Need-named-requires
+named-requires c κs = search needs
 
 returns-3 : tie.Need-returns-3
 unfolding indexAt
-returns-3 c = simp (← c .before .before .before .before .before .before .before .before .before .is-byte .ensures, c .before .before .before .before .before .before .before .before .if1 .left, ← c .before .before .before .before .before .before .before .is-index .ensures, c .before .before .before .before .before .before .if2 .taken, ← c .before .before .before .before .before .take-numeric-param .ensures, c .before .before .before .param .given .1, c .enum-told2 .given .1)
-
-cast-t10 : tie.Need-cast-t10
-cast-t10 c = search needs
-
-add-t11 : tie.Need-add-t11
-add-t11 c =
-    let a = c .before .before .before .before .before .before .before .before .before .before .before .before .args in
-    omega (arith, index-inside (a .fmt .now) (a .at) _ _ (sym (c .before .before .before .before .before .before .before .before .is-index .ensures) ∙ c .before .before .before .before .before .before .before .if2 .taken) (sym (c .before .before .before .before .before .before .take-numeric-param .ensures) ∙ c .before .before .before .before .param .given .1))
+returns-3 c =
+    let number = c .before .before .before .before in
+    let index = number .before .before in
+    simp (
+      ← index .before .before .is-byte .ensures,
+      index .before .if1 .left,
+      ← index .is-index .ensures,
+      number .before .if2 .taken,
+      ← number .take-number .ensures,
+      c .before .before .value .given .1,
+    )
+    (c .named .ensures)
 
 returns-4 : tie.Need-returns-4
 unfolding indexAt
-returns-4 c = simp (← c .before .before .before .before .before .before .before .before .before .before .is-byte .ensures, c .before .before .before .before .before .before .before .before .before .if1 .left, ← c .before .before .before .before .before .before .before .before .is-index .ensures, c .before .before .before .before .before .before .before .if2 .taken, ← c .before .before .before .before .before .before .take-numeric-param .ensures, c .before .before .before .before .param .given .1, c .before .param2 .given .1)
-
-add-t12 : tie.Need-add-t12
-add-t12 c = search needs
+returns-4 c =
+    let index = c .before .before in
+    let a = index .before .before .before .before .args in
+    let h : a .kinds < a .count + 1 = omega arith in
+    simp (← index .before .before .is-byte .ensures, index .before .if1 .left, ← index .is-index .ensures, c .before .if2 .left, lt-leb _ _ h)
 
 add-t13 : tie.Need-add-t13
 add-t13 c = search needs
 
+add-t14 : tie.Need-add-t14
+add-t14 c = search needs
+
 returns-5 : tie.Need-returns-5
 unfolding indexAt
-returns-5 c = simp (← c .before .before .before .is-byte .ensures, c .before .before .if1 .left, ← c .before .is-index .ensures, c .if2 .left)
+returns-5 c =
+    let index = c .before .before in
+    let a = index .before .before .before .before .args in
+    let h : a .count + 1 ≤ a .kinds = omega arith in
+    simp (← index .before .before .is-byte .ensures, index .before .if1 .left, ← index .is-index .ensures, c .before .if2 .left, le-leb _ _ h)
 
 pub take-index-spec : {M : Type 1} → statement M
 take-index-spec =
@@ -69,16 +102,15 @@ take-index-spec =
     is-byte-requires
     returns
     is-index-requires
-    take-numeric-param-requires
-    enum-known-param
+    take-number-requires
+    enum-known-value
     enum-told
     returns-2
-    enum-known-param-2
-    enum-told-2
+    cast-named
+    add-named
+    named-requires
     returns-3
-    cast-t10
-    add-t11
     returns-4
-    add-t12
     add-t13
+    add-t14
     returns-5)

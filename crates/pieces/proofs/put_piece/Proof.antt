@@ -1,65 +1,90 @@
 -- `pieces::put_piece` meets its contract. Assumes nothing.
-use mathlib.Core.Path.{_≡_, sym, ap, subst, _∙_}
+use mathlib.Core.Path.{subst, ap, _∙_}
 use native.Mathlib.Omega.{arith}
-use Rattle.pieces.specs.declared.Size.the-variants.{Bytes}
-use Rattle.pieces.specs.Texts.{Ready, stopOf, pieceText, sizeOf}
+use lib.ListN.{length}
+use Rattle.writing.specs.Laid.{laidIfRoom}
+use Rattle.pieces.specs.PieceTexts.{unpadded, shownPiece}
+use Rattle.pieces.specs.Ready.{Ready}
+use Rattle.pieces.proofs.Pieces.{put-sized, argument-in, element-shown}
 use borrow.Author.Needs.{needs}
 use Rattle.pieces.proofs.put_piece.Statement.{statement}
 use Rattle.pieces.proofs.put_piece.Tie as tie
 
-enum-known-piece : tie.Need-enum-known-piece
-enum-known-piece c = search needs
-
-put-fixed-requires : tie.Need-put-fixed-requires
-put-fixed-requires c κs = rw (← c .before .before .piece .given .1) (c .before .before .before .before .before .before .before .pre)
+unpadded-text-requires : tie.Need-unpadded-text-requires
+unpadded-text-requires c κs = search needs
 
 enum-told : tie.Need-enum-told
 enum-told c = search needs
 
-slice-aggregate-put-text : tie.Need-slice-aggregate-put-text
-slice-aggregate-put-text c = search needs
-
 put-text-requires : tie.Need-put-text-requires
 put-text-requires c κs = search needs
+
+enum-known-piece : tie.Need-enum-known-piece
+enum-known-piece c = search needs
+
+put-byte-requires : tie.Need-put-byte-requires
+put-byte-requires c κs = search needs
 
 enum-known-piece-2 : tie.Need-enum-known-piece-2
 enum-known-piece-2 c = search needs
 
-put-element-requires : tie.Need-put-element-requires
-put-element-requires c κs = rw (← c .before .before .piece2 .given .1) (c .before .before .before .before .before .before .before .pre)
+put-argument-requires : tie.Need-put-argument-requires
+put-argument-requires c κs =
+    let told = c .before .before .piece2 .given in
+    let given = c .before .before .before .before in
+    let start = given .before .before .before .before in
+    let r = subst (Ready (start .args .fmt .now) (start .args .row .now)) (told .1) (start .pre) in
+    (argument-in (start .args .fmt .now) (start .args .row .now) (told .0 .0) r, given .unpadded-text .ensures .1)
 
 same-length : tie.Need-same-length
 same-length c = search needs
 
 returns : tie.Need-returns
-returns c = rw (c .before .before .before .before .before .piece .given .1) (c .before .before .put-fixed .ensures)
+unfolding shownPiece
+returns c =
+    let w = c .before .before .put-text .ensures in
+    let told = c .before .before .before .before .enum-told .given .1 in
+    let given = c .before .before .before .before .before .before in
+    let a = given .before .before .before .before .args in
+    let t = given .unpadded-text .ensures in
+    let u = t .0 ∙ ap (unpadded (a .fmt .now) (a .row .now)) told in
+    let d = a .out .now in
+    rw told (put-sized d _ _ _ (w .0 ∙ ap length u, w .1 ∙ ap (laidIfRoom d) u) (omega (arith, w .0, t .1)))
 
 same-length-2 : tie.Need-same-length-2
 same-length-2 c = search needs
 
 returns-2 : tie.Need-returns-2
-unfolding sizeOf stopOf pieceText
+unfolding shownPiece
 returns-2 c =
-    let w = c .before .before .put-text .ensures in
-    rw (c .before .before .before .before .before .enum-told .given .1) (ap Bytes (w .0), omega (arith, w .0), w .1)
+    let w = c .before .before .put-byte .ensures in
+    let told = c .before .before .before .before .before .piece .given .1 in
+    rw told (put-sized _ _ _ _ w (omega (arith, w .0)))
 
 same-length-3 : tie.Need-same-length-3
 same-length-3 c = search needs
 
 returns-3 : tie.Need-returns-3
-returns-3 c = rw (c .before .before .before .before .before .piece2 .given .1) (c .before .before .put-element .ensures)
+returns-3 c =
+    let told = c .before .before .before .before .before .piece2 .given in
+    let given = c .before .before .before .before .before .before .before in
+    let a = given .before .before .before .before .args in
+    let t = given .unpadded-text in
+    let u = t .ensures .0 ∙ ap (unpadded (a .fmt .now) (a .row .now)) (told .1) in
+    let shown = element-shown (a .fmt .now) (a .row .now) (told .0 .0) (t .result .now) u in
+    rw (told .1, ← shown) (c .before .before .put-argument .ensures)
 
 pub put-piece-spec : {M : Type 1} → statement M
 put-piece-spec =
     tie.close
     (tie.spec
-    enum-known-piece
-    put-fixed-requires
+    unpadded-text-requires
     enum-told
-    slice-aggregate-put-text
     put-text-requires
+    enum-known-piece
+    put-byte-requires
     enum-known-piece-2
-    put-element-requires
+    put-argument-requires
     same-length
     returns
     same-length-2

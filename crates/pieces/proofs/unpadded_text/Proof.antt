@@ -1,10 +1,14 @@
 -- `pieces::unpadded_text` meets its contract. Assumes nothing.
 use Prim.Native.Nat.{_+_, _≤_}
-use mathlib.Core.Path.{subst}
+use mathlib.Core.Path.{subst, ap, _∙_}
 use native.Mathlib.Nat.{add-sub-cancel-left}
 use native.Mathlib.Omega.{arith}
-use lib.ListN.{length}
-use Rattle.pieces.specs.Texts.{Ready, unpadded}
+use lib.ListN.{length, length-take}
+use Rattle.parsing.specs.Limits.{mostFormat}
+use Rattle.strings.specs.Cut.{cutTo}
+use Rattle.strings.proofs.Cuts.{cut-shorter}
+use Rattle.pieces.specs.PieceTexts.{unpadded}
+use Rattle.pieces.specs.Ready.{Ready}
 use Rattle.pieces.proofs.Pieces.{argument-in}
 use borrow.Author.Needs.{needs}
 use Rattle.pieces.proofs.unpadded_text.Statement.{statement}
@@ -14,10 +18,13 @@ enum-known-piece : tie.Need-enum-known-piece
 enum-known-piece c = search needs
 
 -- fixed text is inside the format
-inside : (c : tie.After-known-told) → (c .before .piece .given .0 .0 + c .before .piece .given .0 .1 .0 ≤ length (c .before .before .before .before .before .args .fmt .now)) × (length (c .before .before .before .before .before .args .fmt .now) ≤ 4096)
+inside : (c : tie.After-known-told)
+    → let s = c .before .before .before .before .before .args .fmt .now in
+    let fixed = c .before .piece .given .0 in
+    (fixed .0 + fixed .1 .0 ≤ length s) × (length s ≤ mostFormat)
 inside c =
-    let a = c .before .before .before .before .before .args in
-    let r = subst (Ready (a .fmt .now) (a .row .now)) (c .before .piece .given .1) (c .before .before .before .before .before .pre) in
+    let start = c .before .before .before .before .before in
+    let r = subst (Ready (start .args .fmt .now) (start .args .row .now)) (c .before .piece .given .1) (start .pre) in
     (r .inside, r .short)
 
 add-result : tie.Need-add-result
@@ -43,20 +50,34 @@ enum-known-piece-2 c = search needs
 
 named-text-requires : tie.Need-named-text-requires
 named-text-requires c κs =
-    let a = c .before .before .before .before .before .args in
-    argument-in (a .fmt .now) (a .row .now) (c .before .piece2 .given .0 .0) (rw (← c .before .piece2 .given .1) (c .before .before .before .before .before .pre))
+    let told = c .before .piece2 .given in
+    let start = c .before .before .before .before .before in
+    let r = subst (Ready (start .args .fmt .now) (start .args .row .now)) (told .1) (start .pre) in
+    argument-in (start .args .fmt .now) (start .args .row .now) (told .0 .0) r
+
+cut-requires : tie.Need-cut-requires
+cut-requires c κs = search needs
 
 returns : tie.Need-returns
 unfolding unpadded
-returns c = simp (c .before .before .piece .given .1, add-sub-cancel-left)
+returns c =
+    let known = c .before in (
+      simp (known .before .piece .given .1, add-sub-cancel-left),
+      simp (add-sub-cancel-left, length-take) (omega (arith, inside known .0, inside known .1)),
+    )
 
 returns-2 : tie.Need-returns-2
 unfolding unpadded
-returns-2 c = simp (c .before .enum-told .given .1)
+returns-2 c = (simp (c .before .enum-told .given .1), omega arith)
 
 returns-3 : tie.Need-returns-3
 unfolding unpadded
-returns-3 c = simp (c .before .before .piece2 .given .1) (c .named-text .ensures .0)
+returns-3 c =
+    let told = c .before .before .before .piece2 .given in
+    let p = told .0 .0 .precision in
+    let named = c .before .named-text in
+    let u = c .cut .ensures in
+    (simp (told .1) (u ∙ ap (cutTo p) (named .ensures .0)), omega (arith, ap length u, cut-shorter p (named .result .now), named .ensures .1))
 
 pub unpadded-text-spec : {M : Type 1} → statement M
 unpadded-text-spec =
@@ -71,6 +92,7 @@ unpadded-text-spec =
     slice-aggregate-result
     enum-known-piece-2
     named-text-requires
+    cut-requires
     returns
     returns-2
     returns-3)

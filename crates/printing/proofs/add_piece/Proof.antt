@@ -1,5 +1,4 @@
 -- `printing::add_piece` meets its contract. Assumes nothing.
-use native.Mathlib.Omega.{arith}
 use Rattle.printing.proofs.Behind.{added-one}
 use borrow.Author.Needs.{needs}
 use Rattle.printing.proofs.add_piece.Statement.{statement}
@@ -31,10 +30,12 @@ same-length-2 c = search needs
 
 returns : tie.Need-returns
 returns c =
-    let a = c .before .before .before .before .before .before .before .before .before .before .before .before .before .args in
-    let w = c .before .before .before .before .before .before .put-piece .ensures in
+    let written = c .before .before .before .before .before .before in
+    let placed = written .before .before in
+    let a = placed .before .before .before .before .before .args in
     let z = c .before .before .add-size .ensures in
-    added-one (a .fmt .now) (a .row .now) _ (a .c) (a .tally) (a .out .now) (a .ends .now) _ (c .before .before .before .before .before .before .before .before .place-behind .ensures .0) _ (w .0) _ (w .2) _ (z .0) (z .1) _ (z .2)
+    added-one (a .fmt .now) (a .row .now) _ (a .at) (a .k) (a .tally) (a .out .now) (a .ends .now) _ (placed .place-behind .ensures .0) _ _
+    (written .put-piece .ensures) _ (z .0) (z .1) _ (z .2)
 
 pub add-piece-spec : {M : Type 1} → statement M
 add-piece-spec =

@@ -1,9 +1,9 @@
 -- `printing::add_size` meets its contract. Assumes nothing.
-use Prim.Native.Nat.{_+_, _%_}
+use Prim.Native.Nat.{_+_, _*_, _^_, _≤_, _<_}
 use mathlib.Core.Path.{_≡_, refl, sym, ap, subst, _∙_}
 use native.Mathlib.Omega.{arith}
 use lib.Seq.{set-out}
-use Rattle.pieces.specs.Texts.{SizeBelow}
+use Rattle.elements.specs.Sizes.{SizeBelow}
 use Rattle.printing.specs.Passes.{TallyBelow, addSize, added, withEnd}
 use Rattle.printing.specs.declared.Tally.{Tally}
 use borrow.Author.Needs.{needs}
@@ -19,18 +19,29 @@ enum-told c = search needs
 returns : tie.Need-returns
 returns c =
     let a = c .before .before .args in
-    let g = sym (c .enum-told .given .1) in
-    (subst (λ (t : Tally). t ≡ added (a .c .at) (a .size) t) g refl, subst (TallyBelow (a .c .pieces + 1)) g tt, subst (λ (t : Tally). a .ends .now ≡ withEnd (a .c .pieces) t (a .ends .now)) g refl)
+    let g = sym (c .enum-told .given .1) in (
+      subst (λ (t : Tally). t ≡ added (a .at) (a .size) t) g refl,
+      subst (TallyBelow (a .k + 1)) g tt,
+      subst (λ (t : Tally). a .ends .now ≡ withEnd (a .k) t (a .ends .now)) g refl,
+    )
 
 enum-known-size : tie.Need-enum-known-size
 enum-known-size c = search needs
 
-add-end : tie.Need-add-end
-add-end c =
-    let p = c .before .before .before .before .before .before .pre in
+-- a length and a size are both known
+sum-below : (c : tie.After-known-told2)
+    → (c .before .before .before .before .before .before .args .k < 512)
+    × (c .before .before .before .before .tally .given .0 .0 + c .before .size .given .0 .0
+    ≤ (c .before .before .before .before .before .before .args .k + 1) * 2 ^ 42)
+sum-below c =
+    let first = c .before .before .before .before .before .before in
+    let p = first .pre in
     let s = subst SizeBelow (c .before .size .given .1) (p .0) in
-    let t = subst (TallyBelow (c .before .before .before .before .before .before .args .c .pieces)) (c .before .before .before .before .tally .given .1) (p .2) in
-    omega (arith, p .1, s, t)
+    let t = subst (TallyBelow (first .args .k)) (c .before .before .before .before .tally .given .1) (p .2) in
+    (p .1, omega (arith, s, t))
+
+add-end : tie.Need-add-end
+add-end c = omega (arith, sum-below c .0, sum-below c .1)
 
 cast-ends : tie.Need-cast-ends
 cast-ends c = search needs
@@ -49,27 +60,26 @@ same-length c = search needs
 
 returns-2 : tie.Need-returns-2
 returns-2 c =
-    let p = c .before .before .before .before .before .before .before .pre in
-    let s = subst SizeBelow (c .before .before .size .given .1) (p .0) in
-    let t = subst (TallyBelow (c .before .before .before .before .before .before .before .args .c .pieces)) (c .before .before .before .before .before .tally .given .1) (p .2) in
-    let a = c .before .before .before .before .before .before .before .args in
+    let first = c .before .before .before .before .before .before .before in
+    let a = first .args in
     let g = c .before .before .before .before .before .tally .given .1 in
-    (sym (ap (added (a .c .at) (a .size)) g ∙ ap (addSize _ (a .c .at)) (c .before .before .size .given .1)), omega (arith, p .1, s, t), refl)
+    (sym (ap (added (a .at) (a .size)) g ∙ ap (addSize _ (a .at)) (c .before .before .size .given .1)), sum-below (c .before) .1, refl)
 
 returns-3 : tie.Need-returns-3
 returns-3 c =
-    let p = c .before .before .before .before .before .before .before .pre in
-    let s = subst SizeBelow (c .before .before .size .given .1) (p .0) in
-    let t = subst (TallyBelow (c .before .before .before .before .before .before .before .args .c .pieces)) (c .before .before .before .before .before .tally .given .1) (p .2) in
-    let a = c .before .before .before .before .before .before .before .args in
-    let g = c .before .before .before .before .before .tally .given .1 in
-    (sym (ap (added (a .c .at) (a .size)) g ∙ ap (addSize _ (a .c .at)) (c .before .before .size .given .1)), omega (arith, p .1, s, t), sym (set-out (a .ends .now) (a .c .pieces) _ (omega arith)))
+    let first = c .before .before .before .before .before .before .before in
+    let a = first .args in
+    let g = c .before .before .before .before .before .tally .given .1 in (
+      sym (ap (added (a .at) (a .size)) g ∙ ap (addSize _ (a .at)) (c .before .before .size .given .1)),
+      sum-below (c .before) .1,
+      sym (set-out (a .ends .now) (a .k) _ (omega arith)),
+    )
 
 returns-4 : tie.Need-returns-4
 returns-4 c =
     let a = c .before .before .before .before .before .before .args in
     let g = c .before .before .before .before .tally .given .1 in
-    (sym (ap (added (a .c .at) (a .size)) g ∙ ap (addSize _ (a .c .at)) (c .before .size2 .given .1)), tt, refl)
+    (sym (ap (added (a .at) (a .size)) g ∙ ap (addSize _ (a .at)) (c .before .size2 .given .1)), tt, refl)
 
 pub add-size-spec : {M : Type 1} → statement M
 add-size-spec =

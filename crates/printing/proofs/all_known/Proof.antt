@@ -6,7 +6,7 @@ use lib.ListN.{length, drop}
 use native.Mathlib.Omega.{arith}
 use borrow.Author.Tests.{not-true, not-false}
 use Rattle.parsing.specs.Check.{isKnown, allKnown}
-use Rattle.printing.proofs.Runs.{known-none, known-at}
+use Rattle.printing.proofs.Known.{known-none, known-at}
 use borrow.Author.Needs.{needs}
 use Rattle.printing.proofs.all_known.Statement.{statement}
 use Rattle.printing.proofs.all_known.Tie as tie
@@ -30,13 +30,15 @@ is-known-requires : tie.Need-is-known-requires Inv-loop μ-loop
 is-known-requires c κs = search needs
 
 -- one kind more
-turn : (c : tie.After-is-known Inv-loop μ-loop)
-    → (c .is-known .result && allKnown (drop (c .before .before .before .before .loop .i + 1) (c .before .before .before .before .before .before .args .kinds .now)))
-    ≡ allKnown (c .before .before .before .before .before .before .args .kinds .now)
+turn : (c : tie.After-is-known Inv-loop μ-loop) → let l = c .before .before .before .before in
+    let ks = l .before .before .args .kinds .now in
+    (c .is-known .result && allKnown (drop (l .loop .i + 1) ks)) ≡ allKnown ks
 turn c =
-    let l = c .before .before .before .before .loop in
-    let s = c .before .before .before .before .before .before .args .kinds .now in
-    ap (λ (t : Bool). t && allKnown (drop (l .i + 1) s)) (c .is-known .ensures ∙ ap isKnown (c .before .kind-of .ensures)) ∙ sym (known-at s (l .i) (omega arith)) ∙ l .inv
+    let l = c .before .before .before .before in
+    let ks = l .before .before .args .kinds .now in
+    ap (λ (t : Bool). t && allKnown (drop (l .loop .i + 1) ks)) (c .is-known .ensures ∙ ap isKnown (c .before .kind-of .ensures))
+    ∙ sym (known-at ks (l .loop .i) (omega arith))
+    ∙ l .loop .inv
 
 returns : tie.Need-returns Inv-loop μ-loop
 returns c = simp (not-true (c .before .is-known .result) (c .if1 .taken)) at (turn (c .before))
@@ -51,7 +53,9 @@ loop-again : tie.Need-loop-again Inv-loop μ-loop
 loop-again c = simp (not-false (c .before .is-known .result) (c .if1 .left)) at (turn (c .before))
 
 returns-2 : tie.Need-returns-2 Inv-loop μ-loop
-returns-2 c = sym (known-none (c .before .before .before .args .kinds .now) (c .before .loop .i) (omega arith)) ∙ c .before .loop .inv
+returns-2 c =
+    let l = c .before in
+    sym (known-none (l .before .before .args .kinds .now) (l .loop .i) (omega arith)) ∙ l .loop .inv
 
 pub all-known-spec : {M : Type 1} → statement M
 all-known-spec =

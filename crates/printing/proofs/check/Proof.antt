@@ -1,6 +1,14 @@
 -- `printing::check` meets its contract. Assumes nothing.
-use borrow.Author.Tests.{le-ltb, lt-ltb, le-leb, lt-leb, not-true, not-false}
-use Rattle.parsing.specs.Check.{checked}
+use mathlib.Core.Path.{_≡_, sym, _∙_}
+use mathlib.Core.Bool.{false, _&&_}
+use lib.Dec.{leb}
+use lib.ListN.{length}
+use borrow.Author.Tests.{lt-ltb, le-ltb, le-leb, lt-leb, not-true, not-false}
+use Rattle.writing.specs.Choose.{choose}
+use Rattle.parsing.specs.Check.{mostKinds, allKnown, checkedEnd, checked}
+use Rattle.parsing.specs.Listed.{placed, ended}
+use Rattle.parsing.specs.declared.Checked.the-variants.{Refused}
+use Rattle.printing.proofs.Outcomes.{walk-checked}
 use borrow.Author.Needs.{needs}
 use Rattle.printing.proofs.check.Statement.{statement}
 use Rattle.printing.proofs.check.Tie as tie
@@ -14,35 +22,59 @@ is-well-formed-requires c κs = search needs
 
 returns-2 : tie.Need-returns-2
 unfolding checked
-returns-2 c = simp (le-ltb _ _ (c .before .before .if1 .left), ← c .before .is-well-formed .ensures, not-true (c .before .is-well-formed .result) (c .if2 .taken))
+returns-2 c =
+    let u = c .before .is-well-formed in
+    simp (le-ltb _ _ (c .before .before .if1 .left), ← u .ensures, not-true (u .result) (c .if2 .taken))
+
+-- what is left to test, behind 1 and 2
+tested : (c : tie.Else2) → let s = c .before .before .before .before .before .args .fmt .now in
+    let ks = c .before .before .before .before .before .args .kinds .now in
+    checked s ks ≡ choose (leb (length ks) mostKinds && allKnown ks) (λ _. checkedEnd (ended s ks) (placed s ks)) (λ _. Refused 3 0)
+unfolding checked
+tested c =
+    let u = c .before .is-well-formed in
+    simp (le-ltb _ _ (c .before .before .if1 .left), ← u .ensures, not-false (u .result) (c .if2 .left))
 
 returns-3 : tie.Need-returns-3
-unfolding checked
-returns-3 c = simp (le-ltb _ _ (c .before .before .before .if1 .left), ← c .before .before .is-well-formed .ensures, not-false (c .before .before .is-well-formed .result) (c .before .if2 .left), lt-leb _ _ (c .if3 .taken))
+returns-3 c = sym (tested (c .before) ∙ simp (lt-leb _ _ (c .if3 .taken)))
 
 all-known-requires : tie.Need-all-known-requires
 all-known-requires c κs = search needs
 
 returns-4 : tie.Need-returns-4
-unfolding checked
-returns-4 c = simp (le-ltb _ _ (c .before .before .before .before .before .if1 .left), ← c .before .before .before .before .is-well-formed .ensures, not-false (c .before .before .before .before .is-well-formed .result) (c .before .before .before .if2 .left), le-leb _ _ (c .before .before .if3 .left), ← c .before .all-known .ensures, not-true (c .before .all-known .result) (c .if4 .taken))
+returns-4 c =
+    let a = c .before .all-known in
+    sym (tested (c .before .before .before) ∙ simp (le-leb _ _ (c .before .before .if3 .left), ← a .ensures, not-true (a .result) (c .if4 .taken)))
 
-read-pieces-requires : tie.Need-read-pieces-requires
-read-pieces-requires c κs = search needs
+slice-aggregate-walk : tie.Need-slice-aggregate-walk
+slice-aggregate-walk c = search needs
 
-enum-known-end : tie.Need-enum-known-end
-enum-known-end c = search needs
+array-borrow-prefix-text : tie.Need-array-borrow-prefix-text
+array-borrow-prefix-text c = search needs
 
-enum-known-end-2 : tie.Need-enum-known-end-2
-enum-known-end-2 c = search needs
+slice-aggregate-walk-2 : tie.Need-slice-aggregate-walk-2
+slice-aggregate-walk-2 c = search needs
+
+array-borrow-prefix-slots : tie.Need-array-borrow-prefix-slots
+array-borrow-prefix-slots c = search needs
+
+slice-aggregate-walk-3 : tie.Need-slice-aggregate-walk-3
+slice-aggregate-walk-3 c = search needs
+
+walk-requires : tie.Need-walk-requires
+walk-requires c κs = search needs
+
+checked-of-requires : tie.Need-checked-of-requires
+checked-of-requires c κs = search needs
 
 returns-5 : tie.Need-returns-5
-unfolding checked
-returns-5 c = simp (le-ltb _ _ (c .before .before .before .before .before .before .before .before .before .if1 .left), ← c .before .before .before .before .before .before .before .before .is-well-formed .ensures, not-false (c .before .before .before .before .before .before .before .before .is-well-formed .result) (c .before .before .before .before .before .before .before .if2 .left), le-leb _ _ (c .before .before .before .before .before .before .if3 .left), ← c .before .before .before .before .before .all-known .ensures, not-false (c .before .before .before .before .before .all-known .result) (c .before .before .before .before .if4 .left), ← c .before .before .before .read-pieces .ensures, c .before .end .given .1)
-
-returns-6 : tie.Need-returns-6
-unfolding checked
-returns-6 c = simp (le-ltb _ _ (c .before .before .before .before .before .before .before .before .before .if1 .left), ← c .before .before .before .before .before .before .before .before .is-well-formed .ensures, not-false (c .before .before .before .before .before .before .before .before .is-well-formed .result) (c .before .before .before .before .before .before .before .if2 .left), le-leb _ _ (c .before .before .before .before .before .before .if3 .left), ← c .before .before .before .before .before .all-known .ensures, not-false (c .before .before .before .before .before .all-known .result) (c .before .before .before .before .if4 .left), ← c .before .before .before .read-pieces .ensures, c .before .end2 .given .1)
+returns-5 c =
+    let w = c .before .before .before in
+    let k = w .before .before .before .before in
+    let a = k .before .all-known in
+    let e = k .before .before .before .before .before .before .before .before .args in
+    c .checked-of .ensures ∙ walk-checked (e .fmt .now) _ (e .kinds .now) false _ _ _ _ _ (w .walk .ensures)
+    ∙ sym (tested (k .before .before .before) ∙ simp (le-leb _ _ (k .before .before .if3 .left), ← a .ensures, not-false (a .result) (k .if4 .left)))
 
 pub check-spec : {M : Type 1} → statement M
 check-spec =
@@ -54,8 +86,11 @@ check-spec =
     returns-3
     all-known-requires
     returns-4
-    read-pieces-requires
-    enum-known-end
-    enum-known-end-2
-    returns-5
-    returns-6)
+    slice-aggregate-walk
+    array-borrow-prefix-text
+    slice-aggregate-walk-2
+    array-borrow-prefix-slots
+    slice-aggregate-walk-3
+    walk-requires
+    checked-of-requires
+    returns-5)

@@ -14,13 +14,19 @@ returns : tie.Need-returns
 returns c = search needs
 
 returns-2 : tie.Need-returns-2
-returns-2 c = simp (c .before .before .before .before .found .given .1, le-leb _ _ (c .before .before .if1 .taken), le-leb _ _ (c .before .if2 .taken), le-leb _ _ (c .if3 .taken))
+returns-2 c =
+    let long = c .before .before in
+    simp (long .before .before .found .given .1, le-leb _ _ (long .if1 .taken), le-leb _ _ (c .before .if2 .taken), le-leb _ _ (c .if3 .taken))
 
 returns-3 : tie.Need-returns-3
-returns-3 c = simp (c .before .before .before .before .found .given .1, le-leb _ _ (c .before .before .if1 .taken), le-leb _ _ (c .before .if2 .taken), lt-leb _ _ (c .if3 .left))
+returns-3 c =
+    let long = c .before .before in
+    simp (long .before .before .found .given .1, le-leb _ _ (long .if1 .taken), le-leb _ _ (c .before .if2 .taken), lt-leb _ _ (c .if3 .left))
 
 returns-4 : tie.Need-returns-4
-returns-4 c = simp (c .before .before .before .found .given .1, le-leb _ _ (c .before .if1 .taken), lt-leb _ _ (c .if2 .left))
+returns-4 c =
+    let long = c .before in
+    simp (long .before .before .found .given .1, le-leb _ _ (long .if1 .taken), lt-leb _ _ (c .if2 .left))
 
 returns-5 : tie.Need-returns-5
 returns-5 c = simp (c .before .before .found .given .1, lt-leb _ _ (c .if1 .left))

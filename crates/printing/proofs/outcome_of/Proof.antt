@@ -1,22 +1,30 @@
 -- `printing::outcome_of` meets its contract. Assumes nothing.
-use mathlib.Core.Path.{sym, ap}
+use mathlib.Core.Path.{sym, ap, _∙_}
+use Rattle.parsing.specs.declared.Ended.{Ended}
 use Rattle.printing.specs.Passes.{outcomeOf}
-use Rattle.printing.specs.declared.Tally.{Tally}
 use borrow.Author.Needs.{needs}
 use Rattle.printing.proofs.outcome_of.Statement.{statement}
 use Rattle.printing.proofs.outcome_of.Tie as tie
 
-enum-known-tally : tie.Need-enum-known-tally
-enum-known-tally c = search needs
+enum-known-end : tie.Need-enum-known-end
+enum-known-end c = search needs
 
-enum-known-tally-2 : tie.Need-enum-known-tally-2
-enum-known-tally-2 c = search needs
+enum-told : tie.Need-enum-told
+enum-told c = search needs
+
+tallied-outcome-requires : tie.Need-tallied-outcome-requires
+tallied-outcome-requires c κs = search needs
 
 returns : tie.Need-returns
-returns c = sym (ap (λ (t : Tally). outcomeOf t (c .before .before .before .args .pieces)) (c .before .tally .given .1))
+returns c =
+    let w = c .before .before .before .args .w in
+    sym (ap (λ (x : Ended). outcomeOf x (w .tally) (w .pieces)) (c .before .end .given .1))
 
 returns-2 : tie.Need-returns-2
-returns-2 c = sym (ap (λ (t : Tally). outcomeOf t (c .before .before .before .args .pieces)) (c .before .tally2 .given .1))
+returns-2 c =
+    let w = c .before .before .before .args .w in
+    c .tallied-outcome .ensures ∙ sym (ap (λ (x : Ended). outcomeOf x (w .tally) (w .pieces)) (c .before .enum-told .given .1))
 
 pub outcome-of-spec : {M : Type 1} → statement M
-outcome-of-spec = tie.close (tie.spec enum-known-tally enum-known-tally-2 returns returns-2)
+outcome-of-spec =
+    tie.close (tie.spec enum-known-end enum-told tallied-outcome-requires returns returns-2)

@@ -1,5 +1,5 @@
 -- `printing::place_behind` meets its contract. Assumes nothing.
-use mathlib.Core.Path.{_≡_, sym, ap, _∙_}
+use mathlib.Core.Path.{sym, ap, _∙_}
 use native.Mathlib.Nat.{min-eq-left, min-eq-right, le-refl}
 use native.Mathlib.Omega.{arith}
 use Rattle.printing.specs.Passes.{behind}

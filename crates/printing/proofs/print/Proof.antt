@@ -24,24 +24,36 @@ enum-told c = search needs
 enum-told-2 : tie.Need-enum-told-2
 enum-told-2 c = search needs
 
--- the answer, and what it says
-answered : (c : tie.After-fit) → c .fit .result ≡ printed (c .before .before .before .before .before .before .args .fmt .now) (c .before .before .before .before .before .before .args .row .now) (length (c .before .before .before .before .before .before .args .out .now)) (length (c .before .before .before .before .before .before .args .ends .now))
-unfolding printed
-answered c = c .fit .ensures ∙ ap (within (length (c .before .before .before .before .before .before .args .out .now)) (length (c .before .before .before .before .before .before .args .ends .now))) (c .before .measure .ensures)
+-- the entry; the answer, and what it says
+abbrev entry : tie.After-fit → tie.Start
+entry c = c .before .before .before .before .before .before
 
-ok : (c : tie.After-enum-told) → Fitted (c .before .before .before .before .before .before .before .before .args .fmt .now) (c .before .before .before .before .before .before .before .before .args .row .now) (length (c .before .before .before .before .before .before .before .before .args .out .now)) (length (c .before .before .before .before .before .before .before .before .args .ends .now)) (c .enum-told .given .0 .0) (c .enum-told .given .0 .1 .0)
-ok c = fitted (c .before .before .before .before .before .before .before .before .args .fmt .now) (c .before .before .before .before .before .before .before .before .args .row .now) (length (c .before .before .before .before .before .before .before .before .args .out .now)) (length (c .before .before .before .before .before .before .before .before .args .ends .now)) (c .enum-told .given .0 .0) (c .enum-told .given .0 .1 .0) (sym (answered (c .before .before)) ∙ c .enum-told .given .1)
+answered : (c : tie.After-fit) → let a = entry c .args in
+    c .fit .result ≡ printed (a .fmt .now) (a .row .now) (length (a .out .now)) (length (a .ends .now))
+unfolding printed
+answered c =
+    let a = entry c .args in
+    c .fit .ensures ∙ ap (within (length (a .out .now)) (length (a .ends .now))) (c .before .measure .ensures)
+
+fits : (c : tie.After-enum-told) → let a = entry (c .before .before) .args in
+    Fitted (a .fmt .now) (a .row .now) (length (a .out .now)) (length (a .ends .now)) (c .enum-told .given .0 .0) (c .enum-told .given .0 .1 .0)
+fits c =
+    let a = entry (c .before .before) .args in
+    fitted (a .fmt .now) (a .row .now) (length (a .out .now)) (length (a .ends .now)) _ _ (sym (answered (c .before .before)) ∙ c .enum-told .given .1)
 
 returns : tie.Need-returns
 returns c =
-    let a = c .before .before .before .before .before .before .before .before .args in
+    let a = entry (c .before .before) .args in
     let s = a .fmt .now in
     let row = a .row .now in
     let g = sym (c .enum-told2 .given .1) in (
       answered (c .before .before),
       (
         ap (λ (o : Outcome). written o (a .out .now) (printedText s row)) g,
-        (ap (λ (o : Outcome). written o (a .ends .now) (endsFrom 0 (texts s row))) g, subst (λ (o : Outcome). Demanded s row o (a .out .now) (a .ends .now)) g tt),
+        (
+          ap (λ (o : Outcome). written o (a .ends .now) (endsFrom 0 (texts s row))) g,
+          subst (λ (o : Outcome). Demanded s row o (a .out .now) (a .ends .now)) g tt,
+        ),
       ),
     )
 
@@ -56,18 +68,27 @@ same-length-2 c = search needs
 
 returns-2 : tie.Need-returns-2
 returns-2 c =
-    let a = c .before .before .before .before .before .before .before .before .before .before .before .before .before .before .before .args in
+    let staged = c .before .before .before .before in
+    let told = staged .before .before .before in
+    let first = entry (told .before .before) in
+    let a = first .args in
     let s = a .fmt .now in
     let row = a .row .now in
-    let g = sym (c .before .before .before .before .before .before .before .enum-told .given .1) in
-    let k = ok (c .before .before .before .before .before .before .before) in
-    let v = c .before .before .before .before .stage in
-    let w = subst (λ (o : Outcome). Filled s row (a .out .now) (a .ends .now) o (v .last .1 .1 .0) (v .last .1 .1 .1 .0)) (v .ensures .0 ∙ k .answer) (v .ensures .1) (fitted-room s row (a .out .now) (a .ends .now) _ _ k) in
-    let d = demand s row _ _ (k .accepts) (a .out .now) (a .ends .now) _ _ (w .0) (w .1) (λ i. omega (arith, c .before .before .before .before .before .before .before .before .before .before .before .before .before .shared-slice-known2 .given i)) in (
-      answered (c .before .before .before .before .before .before .before .before .before),
+    let g = sym (told .enum-told .given .1) in
+    let k = fits told in
+    let v = staged .stage in
+    let filled = subst (λ (o : Outcome). Filled s row (a .out .now) (a .ends .now) o (v .last .1 .1 .0) (v .last .1 .1 .1 .0)) (v .ensures .0 ∙ k .answer)
+    (v .ensures .1) in
+    let w = filled (fitted-room s row (a .out .now) (a .ends .now) _ _ k) in
+    let byte = told .before .before .before .before .before .before .shared-slice-known2 .given in
+    let d = demand s row _ _ (k .accepts) (a .out .now) (a .ends .now) _ _ (w .0) (w .1) (λ i. omega (arith, byte i)) in (
+      answered (told .before .before),
       (
         w .0 ∙ ap (λ (o : Outcome). written o (a .out .now) (printedText s row)) g,
-        (w .1 ∙ ap (λ (o : Outcome). written o (a .ends .now) (endsFrom 0 (texts s row))) g, subst (λ (o : Outcome). Demanded s row o (v .last .1 .1 .0) (v .last .1 .1 .1 .0)) g d),
+        (
+          w .1 ∙ ap (λ (o : Outcome). written o (a .ends .now) (endsFrom 0 (texts s row))) g,
+          subst (λ (o : Outcome). Demanded s row o (v .last .1 .1 .0) (v .last .1 .1 .1 .0)) g d,
+        ),
       ),
     )
 

@@ -1,13 +1,18 @@
 -- `printing::stage` meets its contract. Assumes nothing.
 use Prim.Native.Nat.{ℕ, _+_, _-_}
-use mathlib.Core.Path.{_≡_, sym, ap, _∙_}
+use mathlib.Core.Path.{_≡_, refl, sym, ap, _∙_}
 use mathlib.Core.Bool.{true}
 use lib.ListN.{take, drop}
 use native.Mathlib.Omega.{arith}
 use borrow.Author.Tests.{lt-ltb, le-ltb, not-true, not-false}
-use Rattle.rows.specs.Row.{countOf, isRow, rowOf}
-use Rattle.rows.proofs.Rows.{row-shape, row-whole, row-read, row-broken}
-use Rattle.printing.specs.Printing.{measured}
+use Rattle.writing.specs.Choose.{choose}
+use Rattle.parsing.specs.Listed.{ended}
+use Rattle.rows.specs.Row.{countOf, kindsOf, isRow}
+use Rattle.rows.proofs.Rows.{row-shape, row-read, row-broken}
+use Rattle.printing.specs.Printing.{measuredEnd, measured}
+use Rattle.printing.specs.Passes.{Passed}
+use Rattle.printing.specs.declared.Outcome.the-variants.{Refused}
+use Rattle.printing.proofs.Outcomes.{walk-measured}
 use borrow.Author.Needs.{needs}
 use Rattle.printing.proofs.stage.Statement.{statement}
 use Rattle.printing.proofs.stage.Tie as tie
@@ -21,16 +26,9 @@ is-well-formed-requires c κs = search needs
 
 returns-2 : tie.Need-returns-2
 unfolding measured
-returns-2 c = (simp (le-ltb _ _ (c .before .before .if1 .left), ← c .before .is-well-formed .ensures, not-true (c .before .is-well-formed .result) (c .if2 .taken)), tt)
-
-sub-read-row : tie.Need-sub-read-row
-sub-read-row c = search needs
-
-part-read-row-start : tie.Need-part-read-row-start
-part-read-row-start c = search needs
-
-part-read-row-end : tie.Need-part-read-row-end
-part-read-row-end c = search needs
+returns-2 c =
+    let u = c .before .is-well-formed in
+    (simp (le-ltb _ _ (c .before .before .if1 .left), ← u .ensures, not-true (u .result) (c .if2 .taken)), tt)
 
 read-row-requires : tie.Need-read-row-requires
 read-row-requires c κs = search needs
@@ -41,36 +39,54 @@ enum-known-count c = search needs
 enum-told : tie.Need-enum-told
 enum-told c = search needs
 
--- the row, handed on whole
-handed : (c : tie.After-read-row) → c .read-row .result ≡ rowOf (c .before .before .before .before .before .before .before .before .before .args .row .now)
-handed c = c .read-row .ensures ∙ row-whole (c .before .before .before .before .before .before .before .before .before .args .row .now)
+-- the entry, and what is left to test, behind the row's reading
+abbrev entry : tie.After-read-row → tie.Start
+entry r = r .before .before .before .before .before .before .before .before
+
+tested : (r : tie.After-read-row) → let s = entry r .args .fmt .now in let row = entry r .args .row .now in
+    measured s row ≡ choose (isRow row) (λ _. measuredEnd s row (ended s (kindsOf row))) (λ _. Refused 14 0)
+unfolding measured
+tested r =
+    let u = r .before .before .is-well-formed in
+    simp (le-ltb _ _ (r .before .before .before .if1 .left), ← u .ensures, not-false (u .result) (r .before .if2 .left))
 
 returns-3 : tie.Need-returns-3
-unfolding measured
-returns-3 c = (simp (le-ltb _ _ (c .before .before .before .before .before .before .if1 .left), ← c .before .before .before .before .before .is-well-formed .ensures, not-false (c .before .before .before .before .before .is-well-formed .result) (c .before .before .before .before .if2 .left), row-broken _ (sym (handed (c .before .before)) ∙ c .enum-told .given .1)), tt)
+returns-3 c =
+    let r = c .before .before in
+    (sym (tested r ∙ simp (row-broken (entry r .args .row .now) (sym (r .read-row .ensures) ∙ c .enum-told .given .1))), tt)
 
 -- the row that was read
-read : (c : tie.After-known-told) → (isRow (c .before .before .before .before .before .before .before .before .before .before .before .before .args .row .now) ≡ true) × (c .before .count .given .0 .0 ≡ countOf (c .before .before .before .before .before .before .before .before .before .before .before .before .args .row .now))
-read c = row-read (c .before .before .before .before .before .before .before .before .before .before .before .before .args .row .now) (c .before .count .given .0 .0) (sym (handed (c .before .before .before)) ∙ c .before .count .given .1)
+abbrev reading : tie.After-known-told → tie.After-read-row
+reading c = c .before .before .before
 
-add-lay-pieces : tie.Need-add-lay-pieces
-add-lay-pieces c = omega (arith, read c .1, row-shape (c .before .before .before .before .before .before .before .before .before .before .before .before .args .row .now) (read c .0) .1)
+read : (c : tie.After-known-told) → let row = entry (reading c) .args .row .now in (isRow row ≡ true) × (c .before .count .given .0 .0 ≡ countOf row)
+read c = row-read (entry (reading c) .args .row .now) (c .before .count .given .0 .0) (sym (reading c .read-row .ensures) ∙ c .before .count .given .1)
 
-sub-lay-pieces : tie.Need-sub-lay-pieces
-sub-lay-pieces c = search needs
+add-walk : tie.Need-add-walk
+add-walk c = omega (arith, read c .1, row-shape (entry (reading c) .args .row .now) (read c .0) .1)
 
-part-lay-pieces-start : tie.Need-part-lay-pieces-start
-part-lay-pieces-start c = search needs
+sub-walk : tie.Need-sub-walk
+sub-walk c = search needs
 
-part-lay-pieces-end : tie.Need-part-lay-pieces-end
-part-lay-pieces-end c = omega (arith, read c .1, row-shape (c .before .before .before .before .before .before .before .before .before .before .before .before .args .row .now) (read c .0) .0)
+part-walk-start : tie.Need-part-walk-start
+part-walk-start c = search needs
 
-lay-pieces-requires : tie.Need-lay-pieces-requires
-lay-pieces-requires c κs =
-    let row = c .before .before .before .before .before .before .before .before .before .before .before .before .before .before .before .args .row .now in
-    let r = read (c .before .before .before) in
-    let n : 6 + c .before .before .before .before .count .given .0 .0 - 6 ≡ countOf row = omega (arith, r .1) in
-    record { short = c .before .before .before .before .before .before .before .before .before .before .if1 .left; kept = r .0; kinds = ap (λ (m : ℕ). take m (drop 6 row)) n }
+part-walk-end : tie.Need-part-walk-end
+part-walk-end c = omega (arith, read c .1, row-shape (entry (reading c) .args .row .now) (read c .0) .0)
+
+-- 1 and 14 are excluded
+passed : (c : tie.After-known-told) → let a = entry (reading c) .args in
+    Passed (a .fmt .now) (a .row .now) (take (6 + c .before .count .given .0 .0 - 6) (drop 6 (a .row .now)))
+passed c =
+    let row = entry (reading c) .args .row .now in
+    let n : 6 + c .before .count .given .0 .0 - 6 ≡ countOf row = omega (arith, read c .1) in
+    record { short = reading c .before .before .before .if1 .left; kept = read c .0; kinds = ap (λ (m : ℕ). take m (drop 6 row)) n }
+
+walk-requires : tie.Need-walk-requires
+walk-requires c κs = passed (c .before .before .before)
+
+outcome-of-requires : tie.Need-outcome-of-requires
+outcome-of-requires c κs = search needs
 
 same-length : tie.Need-same-length
 same-length c = search needs
@@ -79,11 +95,13 @@ same-length-2 : tie.Need-same-length-2
 same-length-2 c = search needs
 
 returns-4 : tie.Need-returns-4
-unfolding measured
 returns-4 c =
-    let w = c .before .before .before .before .lay-pieces .ensures in
-    let u = c .before .before .before .before .before .before .before .before .before .before .before .before .before .before .is-well-formed in
-    (simp (le-ltb _ _ (c .before .before .before .before .before .before .before .before .before .before .before .before .before .before .before .if1 .left), ← u .ensures, not-false (u .result) (c .before .before .before .before .before .before .before .before .before .before .before .before .before .if2 .left), read (c .before .before .before .before .before .before .before .before) .0) (w .0), w .1)
+    let w = c .before .before .before .before .before in
+    let k = w .before .before .before .before in
+    let a = entry (reading k) .args in
+    let m = walk-measured (a .fmt .now) (a .row .now) _ true (a .out .now) (a .ends .now) _ _ _ (w .walk .ensures) refl (passed k .kinds) _
+    (c .outcome-of .ensures) in
+    (m .0 ∙ sym (tested (reading k) ∙ simp (read k .0)), m .1)
 
 pub stage-spec : {M : Type 1} → statement M
 stage-spec =
@@ -92,18 +110,16 @@ stage-spec =
     returns
     is-well-formed-requires
     returns-2
-    sub-read-row
-    part-read-row-start
-    part-read-row-end
     read-row-requires
     enum-known-count
     enum-told
     returns-3
-    add-lay-pieces
-    sub-lay-pieces
-    part-lay-pieces-start
-    part-lay-pieces-end
-    lay-pieces-requires
+    add-walk
+    sub-walk
+    part-walk-start
+    part-walk-end
+    walk-requires
+    outcome-of-requires
     same-length
     same-length-2
     returns-4)

@@ -1,151 +1,133 @@
--- `printing::walk` meets its contract. Both ways to go on cite one law, laying-next, with the piece that was found. Assumes nothing.
-use Prim.Native.Nat.{_-_}
-use mathlib.Core.Path.{_≡_, sym, subst, _∙_}
+-- `printing::walk` meets its contract. The loop's invariant: `Laying`, of the pieces so far; its measure is what is left of the format. Assumes nothing.
+use Prim.Native.Nat.{_-_, _<_, max}
+use mathlib.Core.Path.{_≡_, refl, sym, ap, subst, _∙_}
+use mathlib.Core.Bool.{Bool, true}
+use mathlib.Core.Logic.{⊎-elim}
+use lib.ListN.{length}
 use native.Mathlib.Omega.{arith}
+use Rattle.parsing.specs.Listed.{mostPieces}
 use Rattle.parsing.specs.Pieces.{pieceAt}
+use Rattle.parsing.specs.declared.Step.{Step}
 use Rattle.parsing.specs.declared.Step.the-variants.{Found}
 use Rattle.parsing.proofs.Progress.{advanced}
-use Rattle.printing.specs.Passes.{Filled}
-use Rattle.printing.specs.declared.Outcome.{Outcome}
-use Rattle.printing.proofs.Reached.{past-end}
-use Rattle.printing.proofs.Laying.{Laying, laying-start, laying-out, laying-refused, laying-end, piece-ready, laying-next, glance-next, glance-other, handed-on}
+use Rattle.printing.specs.Passes.{Walkable, Passed, StopsAt}
+use Rattle.printing.proofs.Reached.{reached-full, reached-refused}
+use Rattle.printing.proofs.Laying.{Laying, piece-ready, laying-as, laying-start, laying-read, laying-printed, walk-finished, walk-stopped}
 use borrow.Author.Needs.{needs}
 use Rattle.printing.proofs.walk.Statement.{statement}
 use Rattle.printing.proofs.walk.Tie as tie
 
 abbrev Inv-loop : tie.InvT-loop
-Inv-loop fmt row kinds out₀ ends₀ c₀ tally₀ left₀ out ends c tally left = Laying fmt row kinds out₀ ends₀ left c tally out ends
+Inv-loop fmt row kinds prints out₀ ends₀ c₀ tally₀ k₀ largest₀ out ends c tally k largest =
+    Laying fmt row kinds prints out₀ ends₀ k c tally largest out ends
 
 abbrev μ-loop : tie.MeasureT-loop
-μ-loop fmt row kinds out₀ ends₀ c₀ tally₀ left₀ out ends c tally left = left
+μ-loop fmt row kinds prints out₀ ends₀ c₀ tally₀ k₀ largest₀ out ends c tally k largest = length fmt - c .at
 
 first-cursor-requires : tie.Need-first-cursor-requires Inv-loop μ-loop
 first-cursor-requires c κs = search needs
 
-loop-holds : tie.Need-loop-holds Inv-loop μ-loop
-loop-holds c = laying-start (c .before .before .before .before .before .before .args .fmt .now) (c .before .before .before .before .before .before .args .row .now) (c .before .before .before .before .before .before .args .kinds .now) (c .before .before .before .before .before .before .args .out .now) (c .before .before .before .before .before .before .args .ends .now) (c .before .before .before .before .before .before .pre) _ (c .first-cursor .ensures)
+-- the entry, and what a pass that prints needs
+abbrev entry : tie.At-loop Inv-loop μ-loop → tie.Start Inv-loop μ-loop
+entry l = l .before .before .before .before .before .before .before
 
-outcome-of-requires : tie.Need-outcome-of-requires Inv-loop μ-loop
-outcome-of-requires c κs = search needs
+passed : (l : tie.At-loop Inv-loop μ-loop) → let a = entry l .args in (a .prints ≡ true → Passed (a .fmt .now) (a .row .now) (a .kinds .now))
+passed l on = subst (λ (b : Bool). Walkable b (entry l .args .fmt .now) (entry l .args .row .now) (entry l .args .kinds .now)) on (entry l .pre)
+
+loop-holds : tie.Need-loop-holds Inv-loop μ-loop
+loop-holds c = laying-start (c .first-cursor .ensures)
 
 same-length : tie.Need-same-length Inv-loop μ-loop
-same-length c = c .before .before .before .before .loop .inv .as-long
+same-length c = search needs
 
 same-length-2 : tie.Need-same-length-2 Inv-loop μ-loop
-same-length-2 c = c .before .before .before .before .loop .inv .as-many
+same-length-2 c = search needs
 
 returns : tie.Need-returns Inv-loop μ-loop
-returns c = laying-end (c .before .before .before .before .before .before .before .before .before .before .before .args .fmt .now) (c .before .before .before .before .before .before .before .before .before .before .before .args .row .now) (c .before .before .before .before .before .before .before .before .before .before .before .args .kinds .now) (c .before .before .before .before .before .before .before .before .before .before .before .args .out .now) (c .before .before .before .before .before .before .before .before .before .before .before .args .ends .now) (c .before .before .before .before .before .before .before .before .before .before .before .pre) (c .before .before .before .before .loop .left) (c .before .before .before .before .loop .c) (c .before .before .before .before .loop .tally) (c .before .before .before .before .loop .out) (c .before .before .before .before .loop .ends) (c .before .before .before .before .loop .inv) (omega arith) (past-end (c .before .before .before .before .before .before .before .before .before .before .before .args .fmt .now) (c .before .before .before .before .before .before .before .before .before .before .before .args .kinds .now) (c .before .before .before .before .loop .c) (omega arith)) _ (c .outcome-of .ensures)
-
-add-glance-requires : tie.Need-add-glance-requires Inv-loop μ-loop
-add-glance-requires c κs = (c .before .before .before .before .before .before .before .before .before .before .before .before .pre, c .before .before .before .before .before .loop .inv .below, c .before .before .before .before .before .loop .inv .reached .few)
-
-enum-known-glance : tie.Need-enum-known-glance Inv-loop μ-loop
-enum-known-glance c = search needs
-
-sub-left : tie.Need-sub-left Inv-loop μ-loop
-sub-left c = search needs
-
-loop-less : tie.Need-loop-less Inv-loop μ-loop
-loop-less c = search needs
-
-loop-again : tie.Need-loop-again Inv-loop μ-loop
-loop-again c = glance-next (c .before .before .before .before .before .before .before .before .before .before .before .before .before .before .before .before .before .before .before .before .args .fmt .now) (c .before .before .before .before .before .before .before .before .before .before .before .before .before .before .before .before .before .before .before .before .args .row .now) (c .before .before .before .before .before .before .before .before .before .before .before .before .before .before .before .before .before .before .before .before .args .kinds .now) (c .before .before .before .before .before .before .before .before .before .before .before .before .before .before .before .before .before .before .before .before .args .out .now) (c .before .before .before .before .before .before .before .before .before .before .before .before .before .before .before .before .before .before .before .before .args .ends .now) (c .before .before .before .before .before .before .before .before .before .before .before .before .before .before .before .before .before .before .before .before .pre) (c .before .before .before .before .before .before .before .before .before .before .before .before .before .loop .left) (c .before .before .before .before .before .before .before .before .before .before .before .before .before .loop .c) (c .before .before .before .before .before .before .before .before .before .before .before .before .before .loop .tally) (c .before .before .before .before .before .before .before .before .before .before .before .before .before .loop .out) (c .before .before .before .before .before .before .before .before .before .before .before .before .before .loop .ends) (c .before .before .before .before .before .before .before .before .before .before .before .before .before .loop .inv) _ _ _ (c .before .before .before .before .before .before .before .add-glance .ensures) (omega arith) (search needs) (search needs) _ _ (c .before .glance .given .1)
-
-enum-told : tie.Need-enum-told Inv-loop μ-loop
-enum-told c = search needs
-
--- what holds where no piece is known at a glance
-same : (c : tie.After-enum-told Inv-loop μ-loop) → Laying (c .before .before .before .before .before .before .before .before .before .before .before .before .before .before .before .before .before .before .before .args .fmt .now) (c .before .before .before .before .before .before .before .before .before .before .before .before .before .before .before .before .before .before .before .args .row .now) (c .before .before .before .before .before .before .before .before .before .before .before .before .before .before .before .before .before .before .before .args .kinds .now) (c .before .before .before .before .before .before .before .before .before .before .before .before .before .before .before .before .before .before .before .args .out .now) (c .before .before .before .before .before .before .before .before .before .before .before .before .before .before .before .before .before .before .before .args .ends .now) (c .before .before .before .before .before .before .before .before .before .before .before .before .loop .left) (c .before .before .before .before .before .before .before .before .before .before .before .before .loop .c) (c .before .before .before .before .before .before .before .before .before .before .before .before .loop .tally) (c .before .before .before .before .before .before .add-glance .last .1 .1 .1 .1 .1 .0) (c .before .before .before .before .before .before .add-glance .last .1 .1 .1 .1 .1 .1 .0)
-same c = glance-other (c .before .before .before .before .before .before .before .before .before .before .before .before .before .before .before .before .before .before .before .args .fmt .now) (c .before .before .before .before .before .before .before .before .before .before .before .before .before .before .before .before .before .before .before .args .row .now) (c .before .before .before .before .before .before .before .before .before .before .before .before .before .before .before .before .before .before .before .args .kinds .now) (c .before .before .before .before .before .before .before .before .before .before .before .before .before .before .before .before .before .before .before .args .out .now) (c .before .before .before .before .before .before .before .before .before .before .before .before .before .before .before .before .before .before .before .args .ends .now) (c .before .before .before .before .before .before .before .before .before .before .before .before .before .before .before .before .before .before .before .pre) (c .before .before .before .before .before .before .before .before .before .before .before .before .loop .left) (c .before .before .before .before .before .before .before .before .before .before .before .before .loop .c) (c .before .before .before .before .before .before .before .before .before .before .before .before .loop .tally) (c .before .before .before .before .before .before .before .before .before .before .before .before .loop .out) (c .before .before .before .before .before .before .before .before .before .before .before .before .loop .ends) (c .before .before .before .before .before .before .before .before .before .before .before .before .loop .inv) _ _ _ (c .before .before .before .before .before .before .add-glance .ensures) (c .enum-told .given .1)
-
-sub-next-piece : tie.Need-sub-next-piece Inv-loop μ-loop
-sub-next-piece c = search needs
-
-part-next-piece-start : tie.Need-part-next-piece-start Inv-loop μ-loop
-part-next-piece-start c = search needs
-
-part-next-piece-end : tie.Need-part-next-piece-end Inv-loop μ-loop
-part-next-piece-end c = search needs
-
-sub-next-piece-2 : tie.Need-sub-next-piece-2 Inv-loop μ-loop
-sub-next-piece-2 c = search needs
-
-part-next-piece-start-2 : tie.Need-part-next-piece-start-2 Inv-loop μ-loop
-part-next-piece-start-2 c = search needs
-
-part-next-piece-end-2 : tie.Need-part-next-piece-end-2 Inv-loop μ-loop
-part-next-piece-end-2 c = search needs
+returns c = walk-stopped refl (reached-full (c .before .before .before .loop .inv .reached) (c .before .if1 .taken) (c .if2 .taken))
 
 next-piece-requires : tie.Need-next-piece-requires Inv-loop μ-loop
-next-piece-requires c κs = c .before .before .before .before .before .before .before .before .before .before .before .before .before .before .loop .inv .reached .few
+next-piece-requires c κs = search needs
 
 enum-known-step : tie.Need-enum-known-step Inv-loop μ-loop
 enum-known-step c = search needs
 
--- any other piece
-found : (c : tie.After-known-told2 Inv-loop μ-loop) → pieceAt (c .before .before .before .before .before .before .before .before .before .before .before .before .before .before .before .before .before .before .before .before .before .before .before .before .before .args .fmt .now) (c .before .before .before .before .before .before .before .before .before .before .before .before .before .before .before .before .before .before .before .before .before .before .before .before .before .args .kinds .now) (c .before .before .before .before .before .before .before .before .before .before .before .before .before .before .before .before .before .before .loop .c) ≡ Found (c .before .step .given .0 .0) (c .before .step .given .0 .1 .0)
-found c = handed-on (c .before .before .before .before .before .before .before .before .before .before .before .before .before .before .before .before .before .before .before .before .before .before .before .before .before .args .fmt .now) (c .before .before .before .before .before .before .before .before .before .before .before .before .before .before .before .before .before .before .before .before .before .before .before .before .before .args .kinds .now) (c .before .before .before .before .before .before .before .before .before .before .before .before .before .before .before .before .before .before .loop .c) ∙ sym (c .before .before .before .next-piece .ensures) ∙ c .before .step .given .1
+enum-told : tie.Need-enum-told Inv-loop μ-loop
+enum-told c = search needs
 
-add-piece-requires : tie.Need-add-piece-requires Inv-loop μ-loop
-add-piece-requires c κs =
-    let f = c .before .before in
-    (piece-ready (c .before .before .before .before .before .before .before .before .before .before .before .before .before .before .before .before .before .before .before .before .before .before .before .before .before .before .before .args .fmt .now) (c .before .before .before .before .before .before .before .before .before .before .before .before .before .before .before .before .before .before .before .before .before .before .before .before .before .before .before .args .row .now) (c .before .before .before .before .before .before .before .before .before .before .before .before .before .before .before .before .before .before .before .before .before .before .before .before .before .before .before .args .kinds .now) (c .before .before .before .before .before .before .before .before .before .before .before .before .before .before .before .before .before .before .before .before .before .before .before .before .before .before .before .pre) (c .before .before .before .before .before .before .before .before .before .before .before .before .before .before .before .before .before .before .before .before .loop .c) _ _ (found f), advanced (c .before .before .before .before .before .before .before .before .before .before .before .before .before .before .before .before .before .before .before .before .before .before .before .before .before .before .before .args .fmt .now) (c .before .before .before .before .before .before .before .before .before .before .before .before .before .before .before .before .before .before .before .before .before .before .before .before .before .before .before .args .kinds .now) (c .before .before .before .before .before .before .before .before .before .before .before .before .before .before .before .before .before .before .before .before .loop .c) _ _ (found f) .room, c .before .before .before .before .before .before .before .before .before .before .before .before .before .before .before .before .before .before .before .before .loop .inv .below)
-
-enum-known-step-2 : tie.Need-enum-known-step-2 Inv-loop μ-loop
-enum-known-step-2 c = search needs
-
-refused-requires : tie.Need-refused-requires Inv-loop μ-loop
-refused-requires c κs = search needs
+stopped-requires : tie.Need-stopped-requires Inv-loop μ-loop
+stopped-requires c κs = search needs
 
 same-length-3 : tie.Need-same-length-3 Inv-loop μ-loop
-same-length-3 c = same (c .before .before .before .before .before .before .before) .as-long
+same-length-3 c = search needs
 
 same-length-4 : tie.Need-same-length-4 Inv-loop μ-loop
-same-length-4 c = same (c .before .before .before .before .before .before .before) .as-many
+same-length-4 c = search needs
 
 returns-2 : tie.Need-returns-2 Inv-loop μ-loop
 returns-2 c =
-    let q = c .refused .ensures in
-    (q ∙ laying-refused (c .before .before .before .before .before .before .before .before .before .before .before .before .before .before .before .before .before .before .before .before .before .before .before .before .before .before .args .fmt .now) (c .before .before .before .before .before .before .before .before .before .before .before .before .before .before .before .before .before .before .before .before .before .before .before .before .before .before .args .row .now) (c .before .before .before .before .before .before .before .before .before .before .before .before .before .before .before .before .before .before .before .before .before .before .before .before .before .before .args .kinds .now) (c .before .before .before .before .before .before .before .before .before .before .before .before .before .before .before .before .before .before .before .before .before .before .before .before .before .before .args .out .now) (c .before .before .before .before .before .before .before .before .before .before .before .before .before .before .before .before .before .before .before .before .before .before .before .before .before .before .args .ends .now) (c .before .before .before .before .before .before .before .before .before .before .before .before .before .before .before .before .before .before .before .before .before .before .before .before .before .before .pre) (c .before .before .before .before .before .before .before .before .before .before .before .before .before .before .before .before .before .before .before .loop .left) (c .before .before .before .before .before .before .before .before .before .before .before .before .before .before .before .before .before .before .before .loop .c) (c .before .before .before .before .before .before .before .before .before .before .before .before .before .before .before .before .before .before .before .loop .tally) _ _ (same (c .before .before .before .before .before .before .before)) (omega arith) _ _ (handed-on (c .before .before .before .before .before .before .before .before .before .before .before .before .before .before .before .before .before .before .before .before .before .before .before .before .before .before .args .fmt .now) (c .before .before .before .before .before .before .before .before .before .before .before .before .before .before .before .before .before .before .before .before .before .before .before .before .before .before .args .kinds .now) (c .before .before .before .before .before .before .before .before .before .before .before .before .before .before .before .before .before .before .before .loop .c) ∙ sym (c .before .before .before .before .next-piece .ensures) ∙ c .before .before .step2 .given .1), subst (λ (o : Outcome). Filled (c .before .before .before .before .before .before .before .before .before .before .before .before .before .before .before .before .before .before .before .before .before .before .before .before .before .before .args .fmt .now) (c .before .before .before .before .before .before .before .before .before .before .before .before .before .before .before .before .before .before .before .before .before .before .before .before .before .before .args .row .now) (c .before .before .before .before .before .before .before .before .before .before .before .before .before .before .before .before .before .before .before .before .before .before .before .before .before .before .args .out .now) (c .before .before .before .before .before .before .before .before .before .before .before .before .before .before .before .before .before .before .before .before .before .before .before .before .before .before .args .ends .now) o (c .before .before .before .before .before .before .before .before .before .before .before .before .before .add-glance .last .1 .1 .1 .1 .1 .0) (c .before .before .before .before .before .before .before .before .before .before .before .before .before .add-glance .last .1 .1 .1 .1 .1 .1 .0)) (sym q) tt)
+    let tried = c .before .before .before .before in
+    let l = tried .before .before .before .loop in
+    let refused = c .before .enum-told .given .1 in
+    walk-stopped (subst (λ (x : Step). StopsAt x (l .c .at) (c .stopped .result)) refused (c .stopped .ensures))
+    (reached-refused (l .inv .reached) (tried .before .if1 .taken) (tried .if2 .left) (sym (c .before .before .before .next-piece .ensures) ∙ refused))
 
-enum-told-2 : tie.Need-enum-told-2 Inv-loop μ-loop
-enum-told-2 c = search needs
+-- a piece is found: the loop around it, and what its tests say
+abbrev around : tie.After-known-told Inv-loop μ-loop → tie.At-loop Inv-loop μ-loop
+around c = c .before .before .before .before .before .before .before
 
-outcome-of-requires-2 : tie.Need-outcome-of-requires-2 Inv-loop μ-loop
-outcome-of-requires-2 c κs = search needs
+abbrev inside : (c : tie.After-known-told Inv-loop μ-loop) → around c .loop .c .at < length (entry (around c) .args .fmt .now)
+inside c = c .before .before .before .before .before .if1 .taken
+
+abbrev room : (c : tie.After-known-told Inv-loop μ-loop) → around c .loop .k < mostPieces
+room c = c .before .before .before .before .if2 .left
+
+found : (c : tie.After-known-told Inv-loop μ-loop) → let l = around c in
+    pieceAt (entry l .args .fmt .now) (entry l .args .kinds .now) (l .loop .c) ≡ Found (c .before .step .given .0 .0) (c .before .step .given .0 .1 .0)
+found c = sym (c .before .before .before .next-piece .ensures) ∙ c .before .step .given .1
+
+add-piece-requires : tie.Need-add-piece-requires Inv-loop μ-loop
+add-piece-requires c κs =
+    let k = c .before .before .before in
+    (piece-ready (passed (around k) (c .before .before .if3 .taken)) (around k .loop .c) (inside k) (found k), room k, around k .loop .inv .below)
+
+argument-of-requires : tie.Need-argument-of-requires Inv-loop μ-loop
+argument-of-requires c κs = search needs
+
+larger-requires : tie.Need-larger-requires Inv-loop μ-loop
+larger-requires c κs = search needs
+
+add-k : tie.Need-add-k Inv-loop μ-loop
+add-k c = search needs
+
+loop-less : tie.Need-loop-less Inv-loop μ-loop
+loop-less c =
+    let k = c .before .before .before in
+    let a = entry (around k) .args in
+    let h = advanced (a .fmt .now) (a .kinds .now) (around k .loop .c) _ _ (inside k) (found k) .forward in
+    omega arith
+
+loop-again : tie.Need-loop-again Inv-loop μ-loop
+loop-again c =
+    let k = c .before .before .before in
+    let l = around k .loop in
+    let m = c .larger .ensures ∙ ap (max (l .largest)) (c .before .argument-of .ensures) in
+    ⊎-elim
+    (λ w. laying-as (w .10) m (w .8) (w .9)
+    (laying-printed (l .inv) (inside k) (room k) (found k) (passed (around k) (w .0 .taken)) (w .3 .ensures) (search needs) (search needs)))
+    (λ w. laying-as (w .3) m (w .1) (w .2) (laying-read (l .inv) (inside k) (room k) (found k) (w .0 .left)))
+    (c .before .before .if3 .came)
 
 same-length-5 : tie.Need-same-length-5 Inv-loop μ-loop
-same-length-5 c = same (c .before .before .before .before .before .before) .as-long
+same-length-5 c = search needs
 
 same-length-6 : tie.Need-same-length-6 Inv-loop μ-loop
-same-length-6 c = same (c .before .before .before .before .before .before) .as-many
+same-length-6 c = search needs
 
 returns-3 : tie.Need-returns-3 Inv-loop μ-loop
-returns-3 c = laying-end (c .before .before .before .before .before .before .before .before .before .before .before .before .before .before .before .before .before .before .before .before .before .before .before .before .before .args .fmt .now) (c .before .before .before .before .before .before .before .before .before .before .before .before .before .before .before .before .before .before .before .before .before .before .before .before .before .args .row .now) (c .before .before .before .before .before .before .before .before .before .before .before .before .before .before .before .before .before .before .before .before .before .before .before .before .before .args .kinds .now) (c .before .before .before .before .before .before .before .before .before .before .before .before .before .before .before .before .before .before .before .before .before .before .before .before .before .args .out .now) (c .before .before .before .before .before .before .before .before .before .before .before .before .before .before .before .before .before .before .before .before .before .before .before .before .before .args .ends .now) (c .before .before .before .before .before .before .before .before .before .before .before .before .before .before .before .before .before .before .before .before .before .before .before .before .before .pre) (c .before .before .before .before .before .before .before .before .before .before .before .before .before .before .before .before .before .before .loop .left) (c .before .before .before .before .before .before .before .before .before .before .before .before .before .before .before .before .before .before .loop .c) (c .before .before .before .before .before .before .before .before .before .before .before .before .before .before .before .before .before .before .loop .tally) _ _ (same (c .before .before .before .before .before .before)) (omega arith) (handed-on (c .before .before .before .before .before .before .before .before .before .before .before .before .before .before .before .before .before .before .before .before .before .before .before .before .before .args .fmt .now) (c .before .before .before .before .before .before .before .before .before .before .before .before .before .before .before .before .before .before .before .before .before .before .before .before .before .args .kinds .now) (c .before .before .before .before .before .before .before .before .before .before .before .before .before .before .before .before .before .before .loop .c) ∙ sym (c .before .before .before .next-piece .ensures) ∙ c .before .enum-told2 .given .1) _ (c .outcome-of2 .ensures)
-
-sub-left-2 : tie.Need-sub-left-2 Inv-loop μ-loop
-sub-left-2 c = search needs
-
-loop-less-2 : tie.Need-loop-less-2 Inv-loop μ-loop
-loop-less-2 c = search needs
-
-loop-again-2 : tie.Need-loop-again-2 Inv-loop μ-loop
-loop-again-2 c = laying-next (c .before .before .before .before .before .before .before .before .before .before .before .before .before .before .before .before .before .before .before .before .before .before .before .before .before .before .before .before .before .before .before .before .args .fmt .now) (c .before .before .before .before .before .before .before .before .before .before .before .before .before .before .before .before .before .before .before .before .before .before .before .before .before .before .before .before .before .before .before .before .args .row .now) (c .before .before .before .before .before .before .before .before .before .before .before .before .before .before .before .before .before .before .before .before .before .before .before .before .before .before .before .before .before .before .before .before .args .kinds .now) (c .before .before .before .before .before .before .before .before .before .before .before .before .before .before .before .before .before .before .before .before .before .before .before .before .before .before .before .before .before .before .before .before .args .out .now) (c .before .before .before .before .before .before .before .before .before .before .before .before .before .before .before .before .before .before .before .before .before .before .before .before .before .before .before .before .before .before .before .before .args .ends .now) (c .before .before .before .before .before .before .before .before .before .before .before .before .before .before .before .before .before .before .before .before .before .before .before .before .before .before .before .before .before .before .before .before .pre) (c .before .before .before .before .before .before .before .before .before .before .before .before .before .before .before .before .before .before .before .before .before .before .before .before .before .loop .left) (c .before .before .before .before .before .before .before .before .before .before .before .before .before .before .before .before .before .before .before .before .before .before .before .before .before .loop .c) (c .before .before .before .before .before .before .before .before .before .before .before .before .before .before .before .before .before .before .before .before .before .before .before .before .before .loop .tally) _ _ (same (c .before .before .before .before .before .before .before .before .before .before .before .before .before)) (omega arith) _ _ (found (c .before .before .before .before .before .before .before)) _ _ _ (c .before .before .before .before .add-piece .ensures) (search needs) (search needs)
-
-refused-requires-2 : tie.Need-refused-requires-2 Inv-loop μ-loop
-refused-requires-2 c κs = search needs
-
-same-length-7 : tie.Need-same-length-7 Inv-loop μ-loop
-same-length-7 c = c .before .before .loop .inv .as-long
-
-same-length-8 : tie.Need-same-length-8 Inv-loop μ-loop
-same-length-8 c = c .before .before .loop .inv .as-many
-
-returns-4 : tie.Need-returns-4 Inv-loop μ-loop
-returns-4 c =
-    let q = c .refused2 .ensures in
-    (q ∙ laying-out (c .before .before .before .before .before .before .before .before .before .args .fmt .now) (c .before .before .before .before .before .before .before .before .before .args .row .now) (c .before .before .before .before .before .before .before .before .before .args .kinds .now) (c .before .before .before .before .before .before .before .before .before .args .out .now) (c .before .before .before .before .before .before .before .before .before .args .ends .now) (c .before .before .before .before .before .before .before .before .before .pre) (c .before .before .loop .left) (c .before .before .loop .c) (c .before .before .loop .tally) (c .before .before .loop .out) (c .before .before .loop .ends) (c .before .before .loop .inv) (omega arith), subst (λ (o : Outcome). Filled (c .before .before .before .before .before .before .before .before .before .args .fmt .now) (c .before .before .before .before .before .before .before .before .before .args .row .now) (c .before .before .before .before .before .before .before .before .before .args .out .now) (c .before .before .before .before .before .before .before .before .before .args .ends .now) o (c .before .before .loop .out) (c .before .before .loop .ends)) (sym q) tt)
+returns-3 c =
+    let l = c .before .before in
+    walk-finished (l .loop .inv) (passed l) (c .if1 .left)
 
 pub walk-spec : {M : Type 1} → statement M
 walk-spec =
@@ -155,39 +137,22 @@ walk-spec =
     μ-loop
     first-cursor-requires
     loop-holds
-    outcome-of-requires
     same-length
     same-length-2
     returns
-    add-glance-requires
-    enum-known-glance
-    sub-left
-    loop-less
-    loop-again
-    enum-told
-    sub-next-piece
-    part-next-piece-start
-    part-next-piece-end
-    sub-next-piece-2
-    part-next-piece-start-2
-    part-next-piece-end-2
     next-piece-requires
     enum-known-step
-    add-piece-requires
-    enum-known-step-2
-    refused-requires
+    enum-told
+    stopped-requires
     same-length-3
     same-length-4
     returns-2
-    enum-told-2
-    outcome-of-requires-2
+    add-piece-requires
+    argument-of-requires
+    larger-requires
+    add-k
+    loop-less
+    loop-again
     same-length-5
     same-length-6
-    returns-3
-    sub-left-2
-    loop-less-2
-    loop-again-2
-    refused-requires-2
-    same-length-7
-    same-length-8
-    returns-4)
+    returns-3)

@@ -58,13 +58,18 @@ is-entry-requires c κs = search needs
 
 -- one entry more
 turn : (c : tie.After-is-entry Inv-loop μ-loop)
-    → (c .is-entry .result && entriesFrom (c .before .before .before .before .before .before .before .args .n - (c .before .before .before .before .before .loop .i + 1)) (c .before .before .before .before .before .before .before .args .row .now) (c .before .before .before .before .before .loop .i + 1 + 1))
-    ≡ entriesFrom (c .before .before .before .before .before .before .before .args .n) (c .before .before .before .before .before .before .before .args .row .now) 1
+    → let at-loop = c .before .before .before .before .before in
+    let i = at-loop .loop .i in
+    let a = at-loop .before .before .args in
+    (c .is-entry .result && entriesFrom (a .n - (i + 1)) (a .row .now) (i + 1 + 1)) ≡ entriesFrom (a .n) (a .row .now) 1
 turn c =
-    let l = c .before .before .before .before .before .loop in
-    let n = c .before .before .before .before .before .before .before .args .n in
-    let s = c .before .before .before .before .before .before .before .args .row .now in
-    let e = c .is-entry .ensures ∙ entry-read s n (l .i) (c .before .before .before .number8 .result) (c .before .before .before .before .before .before .before .pre .1) (c .before .before .before .number8 .ensures) in
+    let at-loop = c .before .before .before .before .before in
+    let l = at-loop .loop in
+    let start = at-loop .before .before in
+    let n = start .args .n in
+    let s = start .args .row .now in
+    let v = c .before .before .before .number8 in
+    let e = c .is-entry .ensures ∙ entry-read s n (l .i) (v .result) (start .pre .1) (v .ensures) in
     ap (λ (t : Bool). t && entriesFrom (n - (l .i + 1)) s (l .i + 1 + 1)) e ∙ sym (entries-next s n (l .i) (omega arith)) ∙ l .inv .1
 
 returns : tie.Need-returns Inv-loop μ-loop
@@ -80,7 +85,10 @@ loop-again : tie.Need-loop-again Inv-loop μ-loop
 loop-again c = (omega arith, simp (not-false (c .before .is-entry .result) (c .if1 .left)) at (turn (c .before)))
 
 returns-2 : tie.Need-returns-2 Inv-loop μ-loop
-returns-2 c = sym (entries-none (c .before .before .before .args .row .now) (c .before .before .before .args .n) (c .before .loop .i) (omega arith)) ∙ c .before .loop .inv .1
+returns-2 c =
+    let l = c .before .loop in
+    let a = c .before .before .before .args in
+    sym (entries-none (a .row .now) (a .n) (l .i) (omega arith)) ∙ l .inv .1
 
 pub are-entries-spec : {M : Type 1} → statement M
 are-entries-spec =

@@ -36,7 +36,9 @@ can-be-null-requires : tie.Need-can-be-null-requires
 can-be-null-requires c κs = search needs
 
 returns-3 : tie.Need-returns-3
-returns-3 c = simp (told (c .before .before .before), le-leb _ _ (c .before .before .if1 .left), eq-eqb _ _ (c .before .if2 .taken), and-true) (c .can-be-null .ensures)
+returns-3 c =
+    let null = le-leb _ _ (c .before .before .if1 .left) in
+    simp (told (c .before .before .before), null, eq-eqb _ _ (c .before .if2 .taken), and-true) (c .can-be-null .ensures)
 
 returns-4 : tie.Need-returns-4
 returns-4 c = simp (told (c .before .before), le-leb _ _ (c .before .if1 .left), ne-eqb _ _ (c .if2 .left), and-false)

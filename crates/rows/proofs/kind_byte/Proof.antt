@@ -1,6 +1,6 @@
 -- `rows::kind_byte` meets its contract. Assumes nothing.
 use native.Mathlib.Omega.{arith}
-use Rattle.rows.proofs.Rows.{room}
+use Rattle.rows.proofs.Arguments.{room}
 use borrow.Author.Needs.{needs}
 use Rattle.rows.proofs.kind_byte.Statement.{statement}
 use Rattle.rows.proofs.kind_byte.Tie as tie

@@ -5,9 +5,8 @@ use mathlib.Core.Bool.{true}
 use native.Mathlib.Nat.{add-sub-cancel-left}
 use native.Mathlib.Omega.{arith}
 use lib.ListN.{length, length-take}
-use Rattle.rows.specs.Row.{kindByteOf}
-use Rattle.pieces.specs.Texts.{isText}
-use Rattle.rows.proofs.Rows.{room, text-room, text-part, text-none}
+use Rattle.rows.specs.Row.{kindByteOf, isText}
+use Rattle.rows.proofs.Arguments.{room, text-room, text-part, text-none}
 use borrow.Author.Needs.{needs}
 use Rattle.rows.proofs.named_text.Statement.{statement}
 use Rattle.rows.proofs.named_text.Tie as tie
@@ -22,17 +21,24 @@ value-of-requires : tie.Need-value-of-requires
 value-of-requires c κs = search needs
 
 -- the kind of the argument is 7
-is-a-text : (c : tie.Then1) → isText (kindByteOf (c .before .before .before .before .args .row .now) (c .before .before .before .before .args .argument)) ≡ true
+is-a-text : (c : tie.Then1)
+    → let a = c .before .before .before .before .args in isText (kindByteOf (a .row .now) (a .argument)) ≡ true
 is-a-text c = sym (ap isText (c .before .before .kind-byte .ensures)) ∙ sym (c .before .is-text .ensures) ∙ c .if1 .taken
 
 count-of-requires : tie.Need-count-of-requires
-count-of-requires c κs = omega (arith, room (c .before .before .before .before .before .args .row .now) (c .before .before .before .before .before .args .argument) (c .before .before .before .before .before .pre) .0)
+count-of-requires c κs =
+    let start = c .before .before .before .before .before in
+    omega (arith, room (start .args .row .now) (start .args .argument) (start .pre) .0)
 
 -- the text is inside the row
-inside : (c : tie.After-count-of) → (6 + 9 * c .count-of .result + c .before .value-of .result % 2 ^ 32 + c .before .value-of .result / 2 ^ 32 ≤ length (c .before .before .before .before .before .before .args .row .now)) × (length (c .before .before .before .before .before .before .args .row .now) ≤ 33350)
+inside : (c : tie.After-count-of)
+    → let row = c .before .before .before .before .before .before .args .row .now in
+    let value = c .before .value-of .result in
+    (6 + 9 * c .count-of .result + value % 2 ^ 32 + value / 2 ^ 32 ≤ length row) × (length row ≤ 33350)
 inside c =
-    let a = c .before .before .before .before .before .before .args in
-    rw (c .count-of .ensures, c .before .value-of .ensures) (text-room (a .row .now) (a .argument) (c .before .before .before .before .before .before .pre) (is-a-text (c .before .before)))
+    let start = c .before .before .before .before .before .before in
+    rw (c .count-of .ensures, c .before .value-of .ensures)
+    (text-room (start .args .row .now) (start .args .argument) (start .pre) (is-a-text (c .before .before)))
 
 mul-start : tie.Need-mul-start
 mul-start c = omega (arith, inside c .0, inside c .1)
@@ -57,19 +63,22 @@ part-result-end c = omega (arith, inside c .0, inside c .1)
 
 returns : tie.Need-returns
 returns c =
-    let a = c .before .before .before .before .before .before .before .args in
-    let p = c .before .before .before .before .before .before .before .pre in
-    let e = text-part (a .row .now) (a .argument) p (is-a-text (c .before .before .before)) in
-    (simp (c .before .count-of .ensures, c .before .before .value-of .ensures, add-sub-cancel-left) e, simp (add-sub-cancel-left, length-take) (omega (arith, inside (c .before) .0, inside (c .before) .1)))
+    let read = c .before in
+    let start = read .before .before .before .before .before .before in
+    let e = text-part (start .args .row .now) (start .args .argument) (start .pre) (is-a-text (read .before .before)) in (
+      simp (read .count-of .ensures, read .before .value-of .ensures, add-sub-cancel-left) e,
+      simp (add-sub-cancel-left, length-take) (omega (arith, inside read .0, inside read .1)),
+    )
 
 slice-aggregate-result : tie.Need-slice-aggregate-result
 slice-aggregate-result c = search needs
 
 returns-2 : tie.Need-returns-2
 returns-2 c =
-    let a = c .before .before .before .before .before .args in
-    let t = sym (ap isText (c .before .before .before .kind-byte .ensures)) ∙ sym (c .before .before .is-text .ensures) ∙ c .before .if1 .left in
-    (text-none (a .row .now) (a .argument) (c .before .before .before .before .before .pre) t, omega arith)
+    let tested = c .before .before in
+    let start = tested .before .before .before in
+    let t = sym (ap isText (tested .before .kind-byte .ensures)) ∙ sym (tested .is-text .ensures) ∙ c .before .if1 .left in
+    (text-none (start .args .row .now) (start .args .argument) (start .pre) t, omega arith)
 
 pub named-text-spec : {M : Type 1} → statement M
 named-text-spec =

@@ -7,7 +7,8 @@ use lib.ListN.{length}
 use borrow.Author.Tests.{le-leb, lt-leb, eq-eqb, ne-eqb}
 use Rattle.writing.specs.Choose.{choose}
 use Rattle.rows.specs.declared.RowRead.the-variants.{Row, Broken}
-use Rattle.rows.specs.Row.{entriesFrom, isRow, rowOf}
+use Rattle.rows.specs.Row.{mostValues, mostText, entriesFrom, isRow}
+use Rattle.rows.specs.Arguments.{rowOf}
 use borrow.Author.Needs.{needs}
 use Rattle.rows.proofs.read_row.Statement.{statement}
 use Rattle.rows.proofs.read_row.Tie as tie
@@ -24,21 +25,23 @@ number4-requires c κs = search needs
 
 -- the two sizes, read
 known : (c : tie.After-number4)
-    → rowOf (c .before .before .before .before .args .row .now)
-    ≡ choose
-    (leb (c .before .number2 .result) 64
-    && leb (c .number4 .result) 32768
-    && eqb (length (c .before .before .before .before .args .row .now)) (6 + 9 * c .before .number2 .result + c .number4 .result)
-    && entriesFrom (c .before .number2 .result) (c .before .before .before .before .args .row .now) 1)
-    (λ _. Row (c .before .number2 .result))
-    (λ _. Broken)
+    → let row = c .before .before .before .before .args .row .now in
+    let n = c .before .number2 .result in
+    let t = c .number4 .result in
+    rowOf row
+    ≡ choose (leb n mostValues && leb t mostText && eqb (length row) (6 + 9 * n + t) && entriesFrom n row 1) (λ _. Row n) (λ _. Broken)
 unfolding rowOf isRow
 known c = simp (le-leb _ _ (c .before .before .if1 .left), ← c .before .number2 .ensures .0, ← c .number4 .ensures .0)
 
 -- the layout kept, but for the entries
-entries : (c : tie.After-are-entries) → rowOf (c .before .before .before .before .before .before .before .before .args .row .now) ≡ choose (c .are-entries .result) (λ _. Row (c .before .before .before .before .before .number2 .result)) (λ _. Broken)
+entries : (c : tie.After-are-entries)
+    → let read = c .before .before .before .before in
+    rowOf (read .before .before .before .before .args .row .now)
+    ≡ choose (c .are-entries .result) (λ _. Row (read .before .number2 .result)) (λ _. Broken)
 entries c =
-    simp (known (c .before .before .before .before), le-leb _ _ (c .before .before .before .if2 .left), le-leb _ _ (c .before .before .if3 .left), eq-eqb _ _ (c .before .if4 .left), ← c .are-entries .ensures)
+    let few = le-leb _ _ (c .before .before .before .if2 .left) in
+    let short = le-leb _ _ (c .before .before .if3 .left) in
+    simp (known (c .before .before .before .before), few, short, eq-eqb _ _ (c .before .if4 .left), ← c .are-entries .ensures)
 
 returns-2 : tie.Need-returns-2
 returns-2 c = simp (known (c .before), lt-leb _ _ (c .if2 .taken))
@@ -56,7 +59,10 @@ add-if4-2 : tie.Need-add-if4-2
 add-if4-2 c = search needs
 
 returns-4 : tie.Need-returns-4
-returns-4 c = simp (known (c .before .before .before), le-leb _ _ (c .before .before .if2 .left), le-leb _ _ (c .before .if3 .left), ne-eqb _ _ (c .if4 .taken))
+returns-4 c =
+    let few = le-leb _ _ (c .before .before .if2 .left) in
+    let short = le-leb _ _ (c .before .if3 .left) in
+    simp (known (c .before .before .before), few, short, ne-eqb _ _ (c .if4 .taken))
 
 are-entries-requires : tie.Need-are-entries-requires
 are-entries-requires c κs = search needs

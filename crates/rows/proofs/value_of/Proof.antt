@@ -1,42 +1,40 @@
 -- `rows::value_of` meets its contract. Assumes nothing.
+use Prim.Native.Nat.{_+_, _-_, _*_, _≤_}
 use native.Mathlib.Omega.{arith}
-use Rattle.rows.proofs.Rows.{room}
+use lib.ListN.{length}
+use Rattle.rows.proofs.Arguments.{room}
 use borrow.Author.Needs.{needs}
 use Rattle.rows.proofs.value_of.Statement.{statement}
 use Rattle.rows.proofs.value_of.Tie as tie
 
 count-of-requires : tie.Need-count-of-requires
 count-of-requires c κs =
-    let a = c .before .args in
-    let r = room (a .row .now) (a .argument) (c .before .pre) in
-    omega (arith, r .0)
+    let start = c .before in
+    omega (arith, room (start .args .row .now) (start .args .argument) (start .pre) .0)
+
+-- the value is inside the row
+inside : (c : tie.After-count-of)
+    → let a = c .before .before .args in
+    6 + c .count-of .result + 8 * (a .argument - 1) + 8 ≤ length (a .row .now)
+inside c =
+    let start = c .before .before in
+    let r = room (start .args .row .now) (start .args .argument) (start .pre) in
+    omega (arith, r .0, r .2, r .3, c .count-of .ensures)
 
 add-number8 : tie.Need-add-number8
-add-number8 c =
-    let a = c .before .before .args in
-    let r = room (a .row .now) (a .argument) (c .before .before .pre) in
-    omega (arith, r .1, c .count-of .ensures)
+add-number8 c = omega (arith, inside c)
 
 sub-number8 : tie.Need-sub-number8
 sub-number8 c = search needs
 
 mul-number8 : tie.Need-mul-number8
-mul-number8 c =
-    let a = c .before .before .args in
-    let r = room (a .row .now) (a .argument) (c .before .before .pre) in
-    omega (arith, r .1, r .3)
+mul-number8 c = omega (arith, inside c)
 
 add-number8-2 : tie.Need-add-number8-2
-add-number8-2 c =
-    let a = c .before .before .args in
-    let r = room (a .row .now) (a .argument) (c .before .before .pre) in
-    omega (arith, r .1, r .3, c .count-of .ensures)
+add-number8-2 c = omega (arith, inside c)
 
 number8-requires : tie.Need-number8-requires
-number8-requires c κs =
-    let a = c .before .before .args in
-    let r = room (a .row .now) (a .argument) (c .before .before .pre) in
-    omega (arith, r .0, r .2, r .3, c .count-of .ensures)
+number8-requires c κs = omega (arith, inside c)
 
 returns : tie.Need-returns
 returns c = simp (c .before .count-of .ensures) at (c .number8 .ensures)

@@ -1,69 +1,52 @@
 -- `specifiers::take_flags` meets its contract. The loop's invariant: the flags from i on, after those read, are the flags of the whole. Assumes nothing.
 use Prim.Native.Nat.{_+_, _-_}
-use mathlib.Core.Path.{_≡_, sym, ap, _∙_}
+use mathlib.Core.Path.{_≡_, ap}
 use lib.ListN.{length, drop}
 use native.Mathlib.Omega.{arith}
-use Rattle.specifiers.specs.Flags.{noFlags, afterFlag, flagsFrom}
-use Rattle.specifiers.proofs.Runs.{flags-end, flags-at}
 use borrow.Author.Needs.{needs}
+use Rattle.specifiers.specs.Flags.{noFlags, afterFlag, flagsFrom}
+use Rattle.specifiers.proofs.Runs.{FlagsTo, flags-end, flags-turn}
 use Rattle.specifiers.proofs.take_flags.Statement.{statement}
 use Rattle.specifiers.proofs.take_flags.Tie as tie
 
 abbrev Inv-loop : tie.InvT-loop
-Inv-loop fmt at i₀ flags₀ i flags = flagsFrom (drop i fmt) i flags ≡ flagsFrom (drop at fmt) at noFlags
+Inv-loop fmt at i₀ flags₀ i flags = FlagsTo fmt at i flags
 
 abbrev μ-loop : tie.MeasureT-loop
 μ-loop fmt at i₀ flags₀ i flags = length fmt - i
 
-no-flags-requires : tie.Need-no-flags-requires Inv-loop μ-loop
-no-flags-requires c κs = search needs
-
 loop-holds : tie.Need-loop-holds Inv-loop μ-loop
-loop-holds c = ap (flagsFrom (drop (c .before .before .args .at) (c .before .before .args .fmt .now)) (c .before .before .args .at)) (c .no-flags .ensures)
-
-shared-slice-read-with-flag : tie.Need-shared-slice-read-with-flag Inv-loop μ-loop
-shared-slice-read-with-flag c = search needs
-
-with-flag-requires : tie.Need-with-flag-requires Inv-loop μ-loop
-with-flag-requires c κs = search needs
-
-enum-known-step : tie.Need-enum-known-step Inv-loop μ-loop
-enum-known-step c = search needs
-
-add-i : tie.Need-add-i Inv-loop μ-loop
-add-i c = search needs
-
-loop-less : tie.Need-loop-less Inv-loop μ-loop
-loop-less c = search needs
+loop-holds c =
+    let from = c .before .before .args in
+    ap (flagsFrom (drop (from .at) (from .fmt .now)) (from .at)) (c .no-flags .ensures)
 
 -- one byte more
-turn : (c : tie.After-with-flag Inv-loop μ-loop)
-    → afterFlag (c .with-flag .result) (flagsFrom (drop (c .before .before .before .loop .i + 1) (c .before .before .before .before .before .before .args .fmt .now)) (c .before .before .before .loop .i + 1)) (c .before .before .before .loop .i) (c .before .before .before .loop .flags)
-    ≡ flagsFrom (drop (c .before .before .before .before .before .before .args .at) (c .before .before .before .before .before .before .args .fmt .now)) (c .before .before .before .before .before .before .args .at) noFlags
+turn : (c : tie.After-with-flag Inv-loop μ-loop) →
+    let at-loop = c .before .before .before in
+    let from = at-loop .before .before .before .args in
+    let i = at-loop .loop .i in
+    afterFlag (c .with-flag .result) (flagsFrom (drop (i + 1) (from .fmt .now)) (i + 1)) i (at-loop .loop .flags)
+    ≡ flagsFrom (drop (from .at) (from .fmt .now)) (from .at) noFlags
 turn c =
-    let l = c .before .before .before .loop in
-    let s = c .before .before .before .before .before .before .args .fmt .now in
-    ap (λ x. afterFlag x (flagsFrom (drop (l .i + 1) s) (l .i + 1)) (l .i) (l .flags)) (c .with-flag .ensures)
-    ∙ sym (flags-at s (l .i) (l .flags) (omega arith))
-    ∙ l .inv
+    let at-loop = c .before .before .before in
+    let from = at-loop .before .before .before .args in
+    let l = at-loop .loop in
+    flags-turn (from .fmt .now) (from .at) (l .i) (l .flags) (l .inv) (omega arith) (c .with-flag .result) (c .with-flag .ensures)
 
 loop-again : tie.Need-loop-again Inv-loop μ-loop
 loop-again c = simp (c .before .step .given .1) at (turn (c .before .before .before))
 
-enum-known-step-2 : tie.Need-enum-known-step-2 Inv-loop μ-loop
-enum-known-step-2 c = search needs
-
 returns : tie.Need-returns Inv-loop μ-loop
 returns c = simp (c .before .step2 .given .1) at (turn (c .before .before .before))
-
-enum-told : tie.Need-enum-told Inv-loop μ-loop
-enum-told c = search needs
 
 returns-2 : tie.Need-returns-2 Inv-loop μ-loop
 returns-2 c = simp (c .enum-told .given .1) at (turn (c .before .before))
 
 returns-3 : tie.Need-returns-3 Inv-loop μ-loop
-returns-3 c = sym (flags-end (c .before .before .before .before .args .fmt .now) (c .before .loop .i) (c .before .loop .flags) (omega arith)) ∙ c .before .loop .inv
+returns-3 c =
+    let l = c .before .loop in
+    let from = c .before .before .before .before .args in
+    flags-end (from .fmt .now) (from .at) (l .i) (l .flags) (l .inv) (omega arith)
 
 pub take-flags-spec : {M : Type 1} → statement M
 take-flags-spec =
@@ -71,16 +54,16 @@ take-flags-spec =
     (tie.spec
     Inv-loop
     μ-loop
-    no-flags-requires
+    (λ c κs. search needs)
     loop-holds
-    shared-slice-read-with-flag
-    with-flag-requires
-    enum-known-step
-    add-i
-    loop-less
+    (λ c. search needs)
+    (λ c κs. search needs)
+    (λ c. search needs)
+    (λ c. search needs)
+    (λ c. search needs)
     loop-again
-    enum-known-step-2
+    (λ c. search needs)
     returns
-    enum-told
+    (λ c. search needs)
     returns-2
     returns-3)

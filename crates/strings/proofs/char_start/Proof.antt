@@ -23,8 +23,9 @@ shared-slice-read-if1 c = search needs
 
 returns : tie.Need-returns Inv-loop μ-loop
 returns c =
-    let l = c .before .before .before .loop in
-    let s = c .before .before .before .before .args .s .now in
+    let at-loop = c .before .before .before in
+    let l = at-loop .loop in
+    let s = at-loop .before .args .s .now in
     sym (back-start s (l .i) (omega arith) (starts-below (getD s (l .i) 0) (c .if1 .taken))) ∙ l .inv .1
 
 shared-slice-read-if2 : tie.Need-shared-slice-read-if2 Inv-loop μ-loop
@@ -32,9 +33,11 @@ shared-slice-read-if2 c = search needs
 
 returns-2 : tie.Need-returns-2 Inv-loop μ-loop
 returns-2 c =
-    let l = c .before .before .before .before .before .loop in
-    let s = c .before .before .before .before .before .before .args .s .now in
-    sym (back-start s (l .i) (omega arith) (starts-above (getD s (l .i) 0) (c .before .before .if1 .left) (c .if2 .taken))) ∙ l .inv .1
+    let at-loop = c .before .before .before .before .before in
+    let l = at-loop .loop in
+    let s = at-loop .before .args .s .now in
+    let b = getD s (l .i) 0 in
+    sym (back-start s (l .i) (omega arith) (starts-above b (c .before .before .if1 .left) (c .if2 .taken))) ∙ l .inv .1
 
 sub-i : tie.Need-sub-i Inv-loop μ-loop
 sub-i c = search needs
@@ -44,15 +47,18 @@ loop-less c = search needs
 
 loop-again : tie.Need-loop-again Inv-loop μ-loop
 loop-again c =
-    let l = c .before .before .before .before .before .loop in
-    let s = c .before .before .before .before .before .before .args .s .now in
-    (omega arith, sym (back-inside s (l .i) (omega arith) (goes-on (getD s (l .i) 0) (c .before .before .if1 .left) (c .if2 .left))) ∙ l .inv .1)
+    let at-loop = c .before .before .before .before .before in
+    let l = at-loop .loop in
+    let s = at-loop .before .args .s .now in
+    let b = getD s (l .i) 0 in
+    (omega arith, sym (back-inside s (l .i) (omega arith) (goes-on b (c .before .before .if1 .left) (c .if2 .left))) ∙ l .inv .1)
 
 returns-3 : tie.Need-returns-3 Inv-loop μ-loop
 unfolding backTo
 returns-3 c =
-    let l = c .before .loop in
-    let s = c .before .before .args .s .now in
+    let at-loop = c .before in
+    let l = at-loop .loop in
+    let s = at-loop .before .args .s .now in
     let e : l .i ≡ 0 = omega arith in
     e ∙ sym (ap (λ (k : ℕ). backTo k s) e) ∙ l .inv .1
 

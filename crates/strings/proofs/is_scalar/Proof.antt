@@ -1,6 +1,5 @@
 -- `strings::is_scalar` meets its contract. Assumes nothing.
 use borrow.Author.Tests.{lt-ltb, le-ltb, le-leb, lt-leb}
-use borrow.Author.Needs.{needs}
 use Rattle.strings.proofs.is_scalar.Statement.{statement}
 use Rattle.strings.proofs.is_scalar.Tie as tie
 

@@ -13,12 +13,12 @@ returns-2 : tie.Need-returns-2
 unfolding capital
 returns-2 c = simp (le-leb _ _ (c .before .if1 .left), lt-leb _ _ (c .if2 .taken))
 
-sub-result : tie.Need-sub-result
-sub-result c = search needs
+add-result : tie.Need-add-result
+add-result c = search needs
 
 returns-3 : tie.Need-returns-3
 unfolding capital
 returns-3 c = simp (le-leb _ _ (c .before .if1 .left), le-leb _ _ (c .if2 .left))
 
 pub to-upper-spec : {M : Type 1} → statement M
-to-upper-spec = tie.close (tie.spec returns returns-2 sub-result returns-3)
+to-upper-spec = tie.close (tie.spec returns returns-2 add-result returns-3)

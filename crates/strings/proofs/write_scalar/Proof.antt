@@ -1,5 +1,6 @@
 -- `strings::write_scalar` meets its contract. Assumes nothing.
 use mathlib.Core.Path.{refl, ap}
+use Prim.Native.Nat.{_≤_}
 use lib.ListN.{length, length-set}
 use native.Mathlib.Omega.{arith}
 use Rattle.writing.proofs.Laid.{laid-stores}
@@ -8,20 +9,41 @@ use borrow.Author.Needs.{needs}
 use Rattle.strings.proofs.write_scalar.Statement.{statement}
 use Rattle.strings.proofs.write_scalar.Tie as tie
 
+-- room for the bytes of each range
+room-one : (c : tie.Then1) → 1 ≤ length (c .before .args .out .now)
+room-one c =
+    let start = c .before in
+    omega (arith, start .pre .1, ap length (one (start .args .c) (c .if1 .taken)))
+
+room-two : (c : tie.Then2) → 2 ≤ length (c .before .before .args .out .now)
+room-two c =
+    let start = c .before .before in
+    omega (arith, start .pre .1, ap length (two (start .args .c) (c .before .if1 .left) (c .if2 .taken)))
+
+room-three : (c : tie.Then3) → 3 ≤ length (c .before .before .before .args .out .now)
+room-three c =
+    let start = c .before .before .before in
+    omega (arith, start .pre .1, ap length (three (start .args .c) (c .before .before .if1 .left) (c .before .if2 .left) (c .if3 .taken)))
+
+room-four : (c : tie.Else3) → 4 ≤ length (c .before .before .before .args .out .now)
+room-four c =
+    let start = c .before .before .before in
+    omega (arith, start .pre .1, ap length (four (start .args .c) (c .before .before .if1 .left) (c .before .if2 .left) (c .if3 .left)))
+
 cast-out : tie.Need-cast-out
 cast-out c = search needs
 
 slice-write-out : tie.Need-slice-write-out
-slice-write-out c = omega (arith, c .before .pre .1, ap length (one (c .before .args .c) (c .if1 .taken)))
+slice-write-out c = omega (arith, room-one c)
 
 same-length : tie.Need-same-length
 same-length c = search needs
 
 returns : tie.Need-returns
 returns c =
-    let e = one (c .before .args .c) (c .if1 .taken) in
-    let d = c .before .args .out .now in
-    rw e (refl, laid-stores d _ (omega (arith, c .before .pre .1, ap length e)))
+    let start = c .before in
+    rw (one (start .args .c) (c .if1 .taken))
+    (refl, laid-stores (start .args .out .now) _ (room-one c))
 
 add-out : tie.Need-add-out
 add-out c = search needs
@@ -30,7 +52,7 @@ cast-out-2 : tie.Need-cast-out-2
 cast-out-2 c = search needs
 
 slice-write-out-2 : tie.Need-slice-write-out-2
-slice-write-out-2 c = omega (arith, c .before .before .pre .1, ap length (two (c .before .before .args .c) (c .before .if1 .left) (c .if2 .taken)))
+slice-write-out-2 c = omega (arith, room-two c)
 
 add-out-2 : tie.Need-add-out-2
 add-out-2 c = search needs
@@ -39,16 +61,16 @@ cast-out-3 : tie.Need-cast-out-3
 cast-out-3 c = search needs
 
 slice-write-out-3 : tie.Need-slice-write-out-3
-slice-write-out-3 c = simp length-set (omega (arith, c .before .before .pre .1, ap length (two (c .before .before .args .c) (c .before .if1 .left) (c .if2 .taken))))
+slice-write-out-3 c = simp length-set (omega (arith, room-two c))
 
 same-length-2 : tie.Need-same-length-2
 same-length-2 c = search needs
 
 returns-2 : tie.Need-returns-2
 returns-2 c =
-    let e = two (c .before .before .args .c) (c .before .if1 .left) (c .if2 .taken) in
-    let d = c .before .before .args .out .now in
-    rw e (refl, laid-stores d _ (omega (arith, c .before .before .pre .1, ap length e)))
+    let start = c .before .before in
+    rw (two (start .args .c) (c .before .if1 .left) (c .if2 .taken))
+    (refl, laid-stores (start .args .out .now) _ (room-two c))
 
 add-out-3 : tie.Need-add-out-3
 add-out-3 c = search needs
@@ -57,7 +79,7 @@ cast-out-4 : tie.Need-cast-out-4
 cast-out-4 c = search needs
 
 slice-write-out-4 : tie.Need-slice-write-out-4
-slice-write-out-4 c = omega (arith, c .before .before .before .pre .1, ap length (three (c .before .before .before .args .c) (c .before .before .if1 .left) (c .before .if2 .left) (c .if3 .taken)))
+slice-write-out-4 c = omega (arith, room-three c)
 
 add-out-4 : tie.Need-add-out-4
 add-out-4 c = search needs
@@ -66,7 +88,7 @@ cast-out-5 : tie.Need-cast-out-5
 cast-out-5 c = search needs
 
 slice-write-out-5 : tie.Need-slice-write-out-5
-slice-write-out-5 c = simp length-set (omega (arith, c .before .before .before .pre .1, ap length (three (c .before .before .before .args .c) (c .before .before .if1 .left) (c .before .if2 .left) (c .if3 .taken))))
+slice-write-out-5 c = simp length-set (omega (arith, room-three c))
 
 add-out-5 : tie.Need-add-out-5
 add-out-5 c = search needs
@@ -75,16 +97,16 @@ cast-out-6 : tie.Need-cast-out-6
 cast-out-6 c = search needs
 
 slice-write-out-6 : tie.Need-slice-write-out-6
-slice-write-out-6 c = simp length-set (omega (arith, c .before .before .before .pre .1, ap length (three (c .before .before .before .args .c) (c .before .before .if1 .left) (c .before .if2 .left) (c .if3 .taken))))
+slice-write-out-6 c = simp length-set (omega (arith, room-three c))
 
 same-length-3 : tie.Need-same-length-3
 same-length-3 c = search needs
 
 returns-3 : tie.Need-returns-3
 returns-3 c =
-    let e = three (c .before .before .before .args .c) (c .before .before .if1 .left) (c .before .if2 .left) (c .if3 .taken) in
-    let d = c .before .before .before .args .out .now in
-    rw e (refl, laid-stores d _ (omega (arith, c .before .before .before .pre .1, ap length e)))
+    let start = c .before .before .before in
+    rw (three (start .args .c) (c .before .before .if1 .left) (c .before .if2 .left) (c .if3 .taken))
+    (refl, laid-stores (start .args .out .now) _ (room-three c))
 
 add-out-6 : tie.Need-add-out-6
 add-out-6 c = search needs
@@ -93,7 +115,7 @@ cast-out-7 : tie.Need-cast-out-7
 cast-out-7 c = search needs
 
 slice-write-out-7 : tie.Need-slice-write-out-7
-slice-write-out-7 c = omega (arith, c .before .before .before .pre .1, ap length (four (c .before .before .before .args .c) (c .before .before .if1 .left) (c .before .if2 .left) (c .if3 .left)))
+slice-write-out-7 c = omega (arith, room-four c)
 
 add-out-7 : tie.Need-add-out-7
 add-out-7 c = search needs
@@ -102,7 +124,7 @@ cast-out-8 : tie.Need-cast-out-8
 cast-out-8 c = search needs
 
 slice-write-out-8 : tie.Need-slice-write-out-8
-slice-write-out-8 c = simp length-set (omega (arith, c .before .before .before .pre .1, ap length (four (c .before .before .before .args .c) (c .before .before .if1 .left) (c .before .if2 .left) (c .if3 .left))))
+slice-write-out-8 c = simp length-set (omega (arith, room-four c))
 
 add-out-8 : tie.Need-add-out-8
 add-out-8 c = search needs
@@ -111,7 +133,7 @@ cast-out-9 : tie.Need-cast-out-9
 cast-out-9 c = search needs
 
 slice-write-out-9 : tie.Need-slice-write-out-9
-slice-write-out-9 c = simp length-set (omega (arith, c .before .before .before .pre .1, ap length (four (c .before .before .before .args .c) (c .before .before .if1 .left) (c .before .if2 .left) (c .if3 .left))))
+slice-write-out-9 c = simp length-set (omega (arith, room-four c))
 
 add-out-9 : tie.Need-add-out-9
 add-out-9 c = search needs
@@ -120,16 +142,16 @@ cast-out-10 : tie.Need-cast-out-10
 cast-out-10 c = search needs
 
 slice-write-out-10 : tie.Need-slice-write-out-10
-slice-write-out-10 c = simp length-set (omega (arith, c .before .before .before .pre .1, ap length (four (c .before .before .before .args .c) (c .before .before .if1 .left) (c .before .if2 .left) (c .if3 .left))))
+slice-write-out-10 c = simp length-set (omega (arith, room-four c))
 
 same-length-4 : tie.Need-same-length-4
 same-length-4 c = search needs
 
 returns-4 : tie.Need-returns-4
 returns-4 c =
-    let e = four (c .before .before .before .args .c) (c .before .before .if1 .left) (c .before .if2 .left) (c .if3 .left) in
-    let d = c .before .before .before .args .out .now in
-    rw e (refl, laid-stores d _ (omega (arith, c .before .before .before .pre .1, ap length e)))
+    let start = c .before .before .before in
+    rw (four (start .args .c) (c .before .before .if1 .left) (c .before .if2 .left) (c .if3 .left))
+    (refl, laid-stores (start .args .out .now) _ (room-four c))
 
 pub write-scalar-spec : {M : Type 1} → statement M
 write-scalar-spec =

@@ -8,7 +8,7 @@ use native.Mathlib.Omega.{arith}
 use Rattle.writing.specs.Laid.{laid}
 use Rattle.writing.proofs.Laid.{laid-none, copy-step}
 use Rattle.strings.specs.Cut.{capital}
-use Rattle.strings.proofs.Cuts.{upper-at}
+use Rattle.strings.proofs.Cased.{upper-at}
 use borrow.Author.Needs.{needs}
 use Rattle.strings.proofs.write_upper.Statement.{statement}
 use Rattle.strings.proofs.write_upper.Tie as tie
@@ -39,9 +39,11 @@ loop-less c = search needs
 
 loop-again : tie.Need-loop-again Inv-loop μ-loop
 loop-again c =
-    let l = c .before .before .before .loop in
-    let d = c .before .before .before .before .before .before .args .out .now in
-    let t = c .before .before .before .before .before .before .args .text .now in
+    let at-loop = c .before .before .before in
+    let l = at-loop .loop in
+    let a = at-loop .before .before .before .args in
+    let d = a .out .now in
+    let t = a .text .now in
     let n : length (map capital t) ≡ length t = length-map t capital in
     let b : c .to-upper .result ≡ getD (map capital t) (l .i) 0 = c .to-upper .ensures ∙ sym (upper-at t (l .i) (omega arith)) in
     (omega arith, simp length-set (omega arith), rw (l .inv .2, b) (copy-step d (map capital t) (l .i) (omega arith) (omega arith)))
@@ -51,9 +53,11 @@ same-length c = search needs
 
 returns : tie.Need-returns Inv-loop μ-loop
 returns c =
-    let l = c .before .loop in
-    let d = c .before .before .before .before .args .out .now in
-    let t = c .before .before .before .before .args .text .now in
+    let at-loop = c .before in
+    let l = at-loop .loop in
+    let a = at-loop .before .before .before .args in
+    let d = a .out .now in
+    let t = a .text .now in
     let e : l .i ≡ length (map capital t) = omega (arith, length-map t capital) in
     (omega arith, l .inv .2 ∙ ap (λ (n : ℕ). laid d (take n (map capital t))) e ∙ simp take-length)
 

@@ -31,8 +31,9 @@ enum-told c = search needs
 
 returns : tie.Need-returns Inv-loop μ-loop
 returns c =
-    let l = c .before .before .before .before .before .before .loop in
-    simp (← c .before .before .lead-of .ensures, c .enum-told .given .1) at (at-lead (l .inv .1) (omega arith) (omega arith))
+    let lead = c .before .before in
+    let l = lead .before .before .before .before .loop in
+    simp (← lead .lead-of .ensures, c .enum-told .given .1) at (at-lead (l .inv .1) (omega arith) (omega arith))
 
 returns-2 : tie.Need-returns-2 Inv-loop μ-loop
 returns-2 c =
@@ -41,8 +42,9 @@ returns-2 c =
 
 returns-3 : tie.Need-returns-3 Inv-loop μ-loop
 returns-3 c =
-    let l = c .before .before .before .before .before .loop in
-    simp (above (l .low) (l .high) _ (c .before .if2 .left) (c .if3 .taken)) at (at-follower (l .inv .1) (omega arith) (c .before .before .if1 .left))
+    let follower = c .before .before in
+    let l = follower .before .before .before .loop in
+    simp (above (l .low) (l .high) _ (c .before .if2 .left) (c .if3 .taken)) at (at-follower (l .inv .1) (omega arith) (follower .if1 .left))
 
 sub-need : tie.Need-sub-need Inv-loop μ-loop
 sub-need c = search needs
@@ -58,8 +60,10 @@ loop-again c =
     let l = c .before .before .before .loop in (
       omega arith,
       ⊎-elim
-          (λ w. simp (w .5, w .6, w .7) (record { decides = simp (← w .1 .ensures, w .3 .given .1) at (at-lead (l .inv .1) (omega arith) (w .0 .taken)) }))
-          (λ w. simp (w .3, w .4, w .5) (record { decides = simp (inside (l .low) (l .high) _ (w .1 .left) (w .2 .left)) at (at-follower (l .inv .1) (omega arith) (w .0 .left)) }))
+          (λ w. simp (w .5, w .6, w .7)
+          (record { decides = simp (← w .1 .ensures, w .3 .given .1) at (at-lead (l .inv .1) (omega arith) (w .0 .taken)) }))
+          (λ w. simp (w .3, w .4, w .5)
+          (record { decides = simp (inside (l .low) (l .high) _ (w .1 .left) (w .2 .left)) at (at-follower (l .inv .1) (omega arith) (w .0 .left)) }))
           (c .if1 .came),
     )
 

@@ -32,14 +32,18 @@ loop-less c = search needs
 
 loop-again : tie.Need-loop-again Inv-loop μ-loop
 loop-again c =
-    let l = c .before .before .before .loop in
-    let s = c .before .before .before .before .before .args .s .now in
+    let at-loop = c .before .before .before in
+    let l = at-loop .loop in
+    let s = at-loop .before .before .args .s .now in
     let h : l .i < length s = search needs in
     let e = c .larger .ensures in
     (omega arith, ap (λ (n : ℕ). max n (largestOf (drop (l .i + 1) s))) e ∙ sym (largest-more s (l .i) (l .top) h) ∙ l .inv .1, search needs)
 
 returns : tie.Need-returns Inv-loop μ-loop
-returns c = sym (largest-end (c .before .before .before .args .s .now) (c .before .loop .i) (c .before .loop .top) (omega arith)) ∙ c .before .loop .inv .1
+returns c =
+    let at-loop = c .before in
+    let l = at-loop .loop in
+    sym (largest-end (at-loop .before .before .args .s .now) (l .i) (l .top) (omega arith)) ∙ l .inv .1
 
 pub largest-spec : {M : Type 1} → statement M
 largest-spec =

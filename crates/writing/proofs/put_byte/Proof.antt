@@ -15,7 +15,7 @@ same-length c = search needs
 
 returns : tie.Need-returns
 returns c =
-    let at-start = c .before .before .before .args in
+    let at-start = c .before .args in
     let d = at-start .out .now in
     let b = at-start .b in
     (refl, laid-first d b (omega arith) ∙ sym (laid-room d (b ∷ []) (omega arith)))

@@ -36,8 +36,11 @@ loop-less c = search needs
 loop-again : tie.Need-loop-again Inv-loop μ-loop
 loop-again c =
     let l = c .before .before .before .loop in
-    let a = c .before .before .before .before .args in
-    (omega arith, ⊎-elim (λ w. w .1 ∙ sym (block-percent (a .text .now) (a .at) (l .i) (omega arith) (w .0 .taken))) (λ w. w .1 ∙ l .inv .1 ∙ block-more (a .text .now) (a .at) (l .i) (omega arith) (w .0 .left)) (c .if1 .came))
+    let a = c .before .before .before .before .args in (
+      omega arith,
+      ⊎-elim (λ w. w .1 ∙ sym (block-percent (a .text .now) (a .at) (l .i) (omega arith) (w .0 .taken)))
+          (λ w. w .1 ∙ l .inv .1 ∙ block-more (a .text .now) (a .at) (l .i) (omega arith) (w .0 .left)) (c .if1 .came),
+    )
 
 returns : tie.Need-returns Inv-loop μ-loop
 returns c =

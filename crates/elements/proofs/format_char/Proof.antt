@@ -1,0 +1,103 @@
+-- `elements::format_char` meets its contract. Assumes nothing.
+use Prim.Native.Nat.{_≤_}
+use mathlib.Core.Path.{sym, _∙_}
+use lib.ListN.{length-take}
+use lib.Seq.{length-take-le}
+use native.Mathlib.Omega.{arith}
+use Rattle.strings.proofs.Scalars.{scalar-length}
+use Rattle.elements.proofs.Numbers.{wrote-start, scalar-within}
+use Rattle.elements.proofs.Shown.{sized-text, sized-stop}
+use borrow.Author.Needs.{needs}
+use Rattle.elements.proofs.format_char.Statement.{statement}
+use Rattle.elements.proofs.format_char.Tie as tie
+
+within : (c : tie.Then2) → c .before .before .magnitude .result ≤ 0x10ffff
+within c = scalar-within (c .before .before .magnitude .result) (sym (c .before .is-scalar .ensures) ∙ c .if2 .taken)
+
+is-negative-requires : tie.Need-is-negative-requires
+is-negative-requires c κs = search needs
+
+returns : tie.Need-returns
+returns c =
+    let a = c .before .before .before .args in
+    sized-stop (a .out .now) _ 16 (simp (← c .before .is-negative .ensures, c .if1 .taken))
+
+magnitude-requires : tie.Need-magnitude-requires
+magnitude-requires c κs = search needs
+
+is-scalar-requires : tie.Need-is-scalar-requires
+is-scalar-requires c κs = search needs
+
+slice-aggregate-write-scalar : tie.Need-slice-aggregate-write-scalar
+slice-aggregate-write-scalar c = search needs
+
+cast-write-scalar : tie.Need-cast-write-scalar
+cast-write-scalar c = omega (arith, within (c .before))
+
+write-scalar-requires : tie.Need-write-scalar-requires
+write-scalar-requires c κs = (within (c .before), scalar-length (c .before .before .before .magnitude .result))
+
+array-share-prefix-buffer : tie.Need-array-share-prefix-buffer
+array-share-prefix-buffer c =
+    let wrote = c .before .before in
+    omega (arith, wrote .write-scalar .ensures .0, scalar-length (wrote .before .before .before .before .magnitude .result))
+
+slice-aggregate-put-padded : tie.Need-slice-aggregate-put-padded
+slice-aggregate-put-padded c = sym (length-take-le _ _ (array-share-prefix-buffer (c .before)))
+
+put-padded-requires : tie.Need-put-padded-requires
+put-padded-requires c κs = simp length-take (omega (arith, array-share-prefix-buffer (c .before)))
+
+same-length : tie.Need-same-length
+same-length c = search needs
+
+returns-2 : tie.Need-returns-2
+returns-2 c =
+    let put = c .before .before in
+    let wrote = put .before .before .before .before in
+    let scalar = wrote .before .before in
+    let taken = scalar .before .before in
+    let signed = taken .before .before in
+    let a = signed .before .before .args in
+    let text = wrote-start _ _ _ _ (wrote .write-scalar .ensures) in
+    sized-text (a .out .now) _ _ _ _
+    (simp (
+      ← signed .is-negative .ensures,
+      taken .before .if1 .left,
+      ← taken .magnitude .ensures,
+      ← scalar .before .is-scalar .ensures,
+      scalar .if2 .taken,
+    )) (rw text at (put .put-padded .ensures))
+
+returns-3 : tie.Need-returns-3
+returns-3 c =
+    let scalar = c .before in
+    let taken = scalar .before in
+    let signed = taken .before .before in
+    let a = signed .before .before .args in
+    sized-stop (a .out .now) _ 16
+    (simp (
+      ← signed .is-negative .ensures,
+      taken .before .if1 .left,
+      ← taken .magnitude .ensures,
+      ← scalar .is-scalar .ensures,
+      c .if2 .left,
+    ))
+
+pub format-char-spec : {M : Type 1} → statement M
+format-char-spec =
+    tie.close
+    (tie.spec
+    is-negative-requires
+    returns
+    magnitude-requires
+    is-scalar-requires
+    slice-aggregate-write-scalar
+    cast-write-scalar
+    write-scalar-requires
+    array-share-prefix-buffer
+    slice-aggregate-put-padded
+    put-padded-requires
+    same-length
+    returns-2
+    returns-3)

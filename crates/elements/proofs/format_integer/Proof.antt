@@ -1,0 +1,78 @@
+-- `elements::format_integer` meets its contract. Assumes nothing.
+use Rattle.elements.proofs.Numbers.{numeral-base, numeral-text}
+use Rattle.elements.proofs.Shown.{sized-text}
+use borrow.Author.Needs.{needs}
+use Rattle.elements.proofs.format_integer.Statement.{statement}
+use Rattle.elements.proofs.format_integer.Tie as tie
+
+enum-known-form : tie.Need-enum-known-form
+enum-known-form c = search needs
+
+numeral-of-requires : tie.Need-numeral-of-requires
+numeral-of-requires c κs = search needs
+
+put-numeral-requires : tie.Need-put-numeral-requires
+put-numeral-requires c κs =
+    let known = c .before .before .before in
+    let a = known .before .before .before .args in
+    simp (c .numeral-of .ensures) (numeral-base (a .e) (known .form .given .0 .0) (a .width) (a .value))
+
+enum-told : tie.Need-enum-told
+enum-told c = search needs
+
+format-char-requires : tie.Need-format-char-requires
+format-char-requires c κs = search needs
+
+enum-told-2 : tie.Need-enum-told-2
+enum-told-2 c = search needs
+
+format-digits-requires : tie.Need-format-digits-requires
+format-digits-requires c κs = search needs
+
+same-length : tie.Need-same-length
+same-length c = search needs
+
+returns : tie.Need-returns
+returns c =
+    let put = c .before .before in
+    let made = put .before in
+    let known = made .before .before .before in
+    let a = known .before .before .before .args in
+    sized-text (a .out .now) _ _ _ _ (simp (known .form .given .1))
+    (rw (numeral-text (a .e) (known .form .given .0 .0) (a .width) (a .value)) at (rw (made .numeral-of .ensures) at (put .put-numeral .ensures)))
+
+same-length-2 : tie.Need-same-length-2
+same-length-2 c = search needs
+
+returns-2 : tie.Need-returns-2
+returns-2 c =
+    let put = c .before .before in
+    simp (put .before .before .enum-told .given .1) (put .format-char .ensures)
+
+same-length-3 : tie.Need-same-length-3
+same-length-3 c = search needs
+
+returns-3 : tie.Need-returns-3
+returns-3 c =
+    let put = c .before .before in
+    let told = put .before .before in
+    let a = told .before .before .before .args in
+    sized-text (a .out .now) _ _ _ _ (simp (told .enum-told2 .given .1)) (put .format-digits .ensures)
+
+pub format-integer-spec : {M : Type 1} → statement M
+format-integer-spec =
+    tie.close
+    (tie.spec
+    enum-known-form
+    numeral-of-requires
+    put-numeral-requires
+    enum-told
+    format-char-requires
+    enum-told-2
+    format-digits-requires
+    same-length
+    returns
+    same-length-2
+    returns-2
+    same-length-3
+    returns-3)

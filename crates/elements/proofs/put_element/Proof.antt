@@ -1,0 +1,141 @@
+-- `elements::put_element` meets its contract. Assumes nothing.
+use borrow.Author.Tests.{le-leb, lt-leb}
+use Rattle.elements.specs.Texts.{elementText}
+use Rattle.elements.proofs.Shown.{sized-text, sized-stop}
+use borrow.Author.Needs.{needs}
+use Rattle.elements.proofs.put_element.Statement.{statement}
+use Rattle.elements.proofs.put_element.Tie as tie
+
+form-of-requires : tie.Need-form-of-requires
+form-of-requires c κs = search needs
+
+enum-known-form : tie.Need-enum-known-form
+enum-known-form c = search needs
+
+slice-aggregate-format-string : tie.Need-slice-aggregate-format-string
+slice-aggregate-format-string c = search needs
+
+format-string-requires : tie.Need-format-string-requires
+format-string-requires c κs = search needs
+
+same-length : tie.Need-same-length
+same-length c = search needs
+
+returns : tie.Need-returns
+unfolding elementText
+returns c =
+    let put = c .before .before in
+    let tested = put .before .before .before in
+    let known = tested .before .before in
+    let form = known .before .before in
+    let a = form .before .before .before .args in
+    sized-text (a .out .now) _ _ _ _
+    (simp (← form .form-of .ensures, known .form .given .1, le-leb 128 (a .kind) (tested .if1 .taken))) (put .format-string .ensures)
+
+format-integer-requires : tie.Need-format-integer-requires
+format-integer-requires c κs = search needs
+
+enum-told : tie.Need-enum-told
+enum-told c = search needs
+
+format-hex-float-requires : tie.Need-format-hex-float-requires
+format-hex-float-requires c κs = search needs
+
+enum-told-2 : tie.Need-enum-told-2
+enum-told-2 c = search needs
+
+format-boolean-requires : tie.Need-format-boolean-requires
+format-boolean-requires c κs = search needs
+
+enum-told-3 : tie.Need-enum-told-3
+enum-told-3 c = search needs
+
+format-string-requires-2 : tie.Need-format-string-requires-2
+format-string-requires-2 c κs = search needs
+
+enum-told-4 : tie.Need-enum-told-4
+enum-told-4 c = search needs
+
+same-length-2 : tie.Need-same-length-2
+same-length-2 c = search needs
+
+returns-2 : tie.Need-returns-2
+unfolding elementText
+returns-2 c =
+    let put = c .before .before in
+    let tested = put .before .before in
+    let known = tested .before .before in
+    let form = known .before .before in
+    let a = form .before .before .before .args in
+    simp (← form .form-of .ensures, known .form .given .1, lt-leb 128 (a .kind) (tested .if1 .left)) (put .format-integer .ensures)
+
+same-length-3 : tie.Need-same-length-3
+same-length-3 c = search needs
+
+returns-3 : tie.Need-returns-3
+unfolding elementText
+returns-3 c =
+    let put = c .before .before in
+    let told = put .before .before in
+    let form = told .before .before in
+    let a = form .before .before .before .args in
+    sized-text (a .out .now) _ _ _ _ (simp (← form .form-of .ensures, told .enum-told .given .1)) (put .format-hex-float .ensures)
+
+same-length-4 : tie.Need-same-length-4
+same-length-4 c = search needs
+
+returns-4 : tie.Need-returns-4
+unfolding elementText
+returns-4 c =
+    let put = c .before .before in
+    let told = put .before .before in
+    let form = told .before .before in
+    let a = form .before .before .before .args in
+    sized-text (a .out .now) _ _ _ _ (simp (← form .form-of .ensures, told .enum-told2 .given .1)) (put .format-boolean .ensures)
+
+same-length-5 : tie.Need-same-length-5
+same-length-5 c = search needs
+
+returns-5 : tie.Need-returns-5
+unfolding elementText
+returns-5 c =
+    let put = c .before .before in
+    let told = put .before .before in
+    let form = told .before .before in
+    let a = form .before .before .before .args in
+    sized-text (a .out .now) _ _ _ _ (simp (← form .form-of .ensures, told .enum-told3 .given .1)) (put .format-string2 .ensures)
+
+returns-6 : tie.Need-returns-6
+unfolding elementText
+returns-6 c =
+    let form = c .before .before in
+    let a = form .before .before .before .args in
+    sized-stop (a .out .now) _ 15 (simp (← form .form-of .ensures, c .enum-told4 .given .1))
+
+pub put-element-spec : {M : Type 1} → statement M
+put-element-spec =
+    tie.close
+    (tie.spec
+    form-of-requires
+    enum-known-form
+    slice-aggregate-format-string
+    format-string-requires
+    same-length
+    returns
+    format-integer-requires
+    enum-told
+    format-hex-float-requires
+    enum-told-2
+    format-boolean-requires
+    enum-told-3
+    format-string-requires-2
+    enum-told-4
+    same-length-2
+    returns-2
+    same-length-3
+    returns-3
+    same-length-4
+    returns-4
+    same-length-5
+    returns-5
+    returns-6)

@@ -1,0 +1,59 @@
+-- A text brought to a width: its length, and the three writes that make it. Assumes nothing.
+use mathlib.Core.Path.{_≡_, refl, sym, ap, _∙_}
+use mathlib.Core.List.{List, _++_}
+use Prim.Native.Nat.{ℕ, _+_, _-_, _≤_, _<_, max}
+use native.Mathlib.Omega.{arith}
+use lib.ListN.{length}
+use borrow.Rule.Slice.PartMut.{putMid, midOf}
+use Rattle.writing.specs.Laid.{Wrote, Put}
+use Rattle.writing.proofs.Laid.{laid-room, laid-no-room}
+use Rattle.layout.specs.Frame.{byteText, closingByte, marks, headText, tailText, framed, spare, frameOf, padded}
+use Rattle.layout.specs.declared.Mark.{Mark}
+use Rattle.layout.specs.declared.Prefix.{Prefix}
+use Rattle.layout.specs.declared.Adjust.{Adjust}
+use Rattle.layout.specs.declared.Adjust.the-variants.{Right, Left, Zeros}
+use Rattle.layout.specs.declared.Frame.{Frame}
+use Rattle.layout.proofs.Lengths.{head-length, tail-length, framed-length}
+use Rattle.layout.proofs.Chained.{wrote-three}
+
+-- f is the frame of the text.
+module _ (w : ℕ) (a : Adjust) (m : Mark) (p : Prefix) (body : List ℕ) (f : Frame) (e : f ≡ frameOf w a m p (length body)) where
+  padded-is : padded w a m p body ≡ headText f ++ (body ++ tailText f)
+  unfolding padded framed
+  padded-is = rw e refl
+
+  pub padded-size : length (padded w a m p body) ≡ (length (headText f) + length (tailText f)) + length body
+  unfolding padded
+  padded-size = ap (λ (g : Frame). length (framed g body)) (sym e) ∙ framed-length f body ∙ omega arith
+
+  -- D is what the slice holds after the head, of length h; Y what the writer of the text left of the part from h on; E the slice then; and Z what the
+  -- writer of the tail left of the part behind the text.
+  pub padded-wrote : (d D Y E Z : List ℕ) (h n r : ℕ) → Wrote d (headText f) h D → Wrote (midOf h (length D - h) D) body n Y
+      → E ≡ putMid h (length D - h) D Y → Wrote (midOf (h + n) (length E - (h + n)) E) (tailText f) r Z
+      → Wrote d (padded w a m p body) (h + n + r) (putMid (h + n) (length E - (h + n)) E Z)
+  padded-wrote d D Y E Z h n r x y b z = rw padded-is (wrote-three d (headText f) body (tailText f) D Y E Z h n r x y b z)
+
+  -- t is the length of both: with room for so much the three writes, and without it nothing, are what a put_ leaves.
+  module _ (d : List ℕ) (t : ℕ) (l : t ≡ (length (headText f) + length (tailText f)) + length body) where
+    pub padded-put : (D Y E Z : List ℕ) (h n r : ℕ) → t ≤ length d → Wrote d (headText f) h D → Wrote (midOf h (length D - h) D) body n Y
+        → E ≡ putMid h (length D - h) D Y → Wrote (midOf (h + n) (length E - (h + n)) E) (tailText f) r Z
+        → Put d (padded w a m p body) t (putMid (h + n) (length E - (h + n)) E Z)
+    padded-put D Y E Z h n r room x y b z =
+        (l ∙ sym padded-size, padded-wrote d D Y E Z h n r x y b z .1 ∙ sym (laid-room d (padded w a m p body) (omega (arith, padded-size))))
+
+    pub padded-not : length d < t → Put d (padded w a m p body) t d
+    padded-not h = (l ∙ sym padded-size, sym (laid-no-room d (padded w a m p body) (omega (arith, padded-size))))
+
+-- What a frame brings a text of n bytes to: the width, or more where mark, prefix and text are longer.
+module _ (w : ℕ) (m : Mark) (p : Prefix) (body : List ℕ) where
+  pub padded-length : (a : Adjust) → length (padded w a m p body) ≡ max w (length (marks m p) + length body + length (byteText (closingByte m)))
+  unfolding frameOf spare
+  padded-length Right =
+      let f = frameOf w Right m p (length body) in
+      padded-size w Right m p body f refl ∙ rw (head-length f, tail-length f) (omega arith)
+  padded-length Left =
+      let f = frameOf w Left m p (length body) in
+      padded-size w Left m p body f refl ∙ rw (head-length f, tail-length f) (omega arith)
+  padded-length Zeros =
+      let f = frameOf w Zeros m p (length body) in
+      padded-size w Zeros m p body f refl ∙ rw (head-length f, tail-length f) (omega arith)
