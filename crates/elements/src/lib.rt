@@ -182,8 +182,20 @@ fn write_numeral(out: &mut [u8], n: Numeral, len: usize) -> usize
     numerals::write_digits(out, n.value, n.base, len, n.upper)
 }
 
-// A numeral, padded to the element's width.
-fn put_numeral(out: &mut [u8], e: Element, n: Numeral) -> u64
+// A numeral without width, mark and prefix: there is no frame to write.
+fn put_bare_numeral(out: &mut [u8], n: Numeral) -> u64
+    requires { ⌜ IsBase (n .base) ⌝ }
+    ensures { λ r. ⌜ Put (now (out .entry)) (digitsText n) r (now (out .exit)) × (r < 2 ^ 42) ⌝ }
+{
+    let len = numeral_len(n);
+    if len <= out.len() {
+        write_numeral(out, n, len);
+    }
+    len as u64
+}
+
+// A numeral in its frame.
+fn put_framed_numeral(out: &mut [u8], e: Element, n: Numeral) -> u64
     requires { ⌜ IsBase (n .base) ⌝ }
     ensures { λ r. ⌜ Put (now (out .entry)) (paddedNumber e (n .mark) (n .prefix) (digitsText n)) r (now (out .exit)) × (r < 2 ^ 42) ⌝ }
 {
@@ -200,6 +212,20 @@ fn put_numeral(out: &mut [u8], e: Element, n: Numeral) -> u64
         layout::write_tail(&mut out[b..], frame);
     }
     total
+}
+
+// A numeral, padded to the element's width.
+fn put_numeral(out: &mut [u8], e: Element, n: Numeral) -> u64
+    requires { ⌜ IsBase (n .base) ⌝ }
+    ensures { λ r. ⌜ Put (now (out .entry)) (paddedNumber e (n .mark) (n .prefix) (digitsText n)) r (now (out .exit)) × (r < 2 ^ 42) ⌝ }
+{
+    let width = e.width;
+    let mark = n.mark;
+    let prefix = n.prefix;
+    if layout::is_bare(width_of(width), mark, prefix) {
+        return put_bare_numeral(out, n);
+    }
+    put_framed_numeral(out, e, n)
 }
 
 // %d

@@ -1,13 +1,16 @@
 -- A text brought to a width: its length, and the three writes that make it. Assumes nothing.
 use mathlib.Core.Path.{_≡_, refl, sym, ap, _∙_}
-use mathlib.Core.List.{List, _++_}
+use mathlib.Core.Bool.{true}
+use mathlib.Core.List.{List, [], _++_, append-nil}
 use Prim.Native.Nat.{ℕ, _+_, _-_, _≤_, _<_, max}
 use native.Mathlib.Omega.{arith}
-use lib.ListN.{length}
+use lib.ListN.{length, drop-of-length-le}
+use borrow.Author.Tests.{eqb-true}
 use borrow.Rule.Slice.PartMut.{putMid, midOf}
 use Rattle.writing.specs.Laid.{Wrote, Put}
 use Rattle.writing.proofs.Laid.{laid-room, laid-no-room}
 use Rattle.layout.specs.Frame.{byteText, closingByte, marks, headText, tailText, framed, spare, frameOf, padded}
+use Rattle.layout.specs.Bare.{isBare}
 use Rattle.layout.specs.declared.Mark.{Mark}
 use Rattle.layout.specs.declared.Prefix.{Prefix}
 use Rattle.layout.specs.declared.Adjust.{Adjust}
@@ -57,3 +60,13 @@ module _ (w : ℕ) (m : Mark) (p : Prefix) (body : List ℕ) where
   padded-length Zeros =
       let f = frameOf w Zeros m p (length body) in
       padded-size w Zeros m p body f refl ∙ rw (head-length f, tail-length f) (omega arith)
+
+-- Where there is nothing to write around a text, it stays as it is: by the lengths, head and tail are empty.
+pub bare : (width : ℕ) (a : Adjust) (m : Mark) (p : Prefix) (t : List ℕ) → isBare width m p ≡ true → padded width a m p t ≡ t
+bare width a m p t e =
+    let f = frameOf width a m p (length t) in
+    let z : width + length (marks m p) + length (byteText (closingByte m)) ≡ 0 = eqb-true _ 0 e in
+    let n : length (headText f) + length (tailText f) ≡ 0 = omega (arith, padded-size width a m p t f refl, padded-length width m p t a) in
+    let head : headText f ≡ [] = drop-of-length-le (headText f) {i = 0} (omega arith) in
+    let tail : tailText f ≡ [] = drop-of-length-le (tailText f) {i = 0} (omega arith) in
+    padded-is width a m p t f refl ∙ rw (head, tail, append-nil)

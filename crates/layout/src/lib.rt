@@ -7,6 +7,7 @@ ghost use Prim.Native.Nat.{_+_, _^_, _≤_, _<_};
 ghost use lib.ListN.{length};
 ghost use Rattle.writing.specs.Laid.{Wrote};
 ghost use Rattle.layout.specs.Frame.{byteText, openingByte, closingByte, prefixZero, prefixLetter, marks, headText, tailText, spare, frameOf};
+ghost use Rattle.layout.specs.Bare.{isBare};
 
 // The mark of a number.
 pub enum Mark {
@@ -139,6 +140,13 @@ fn write_marks(out: &mut [u8], mark: Mark, prefix: Prefix) -> usize
     let y = prefix_zero(prefix);
     let z = prefix_letter(prefix);
     write_bytes(out, x, y, z)
+}
+
+// Whether there is nothing to write around a text: no width, mark or prefix.
+pub fn is_bare(width: u32, mark: Mark, prefix: Prefix) -> bool
+    ensures { λ r. ⌜ r ≡ isBare width mark prefix ⌝ }
+{
+    (width as u64) + marks_len(mark, prefix) + byte_len(closing_byte(mark)) == 0
 }
 
 // What is left of the width beside mark, prefix and a text of n.

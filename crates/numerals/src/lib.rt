@@ -82,17 +82,22 @@ pub fn digits_len(x: u64, base: u64) -> usize
     decimal_len(x)
 }
 
-// Writes the n lowest digits of x in the base, leading zeros included. Answers n.
+// Writes the n lowest digits of x in the base, leading zeros included. Answers n. Two digits a turn, since a division takes longer than all else in it.
 fn write_places(out: &mut [u8], x: u64, base: u64, n: usize, upper: bool) -> usize
     requires { ⌜ (1 ≤ base) × (base ≤ 16) × (n ≤ length (now out)) ⌝ }
     ensures { λ r. ⌜ Wrote (now (out .entry)) (lettersOf upper (digitsIn base n x)) r (now (out .exit)) ⌝ }
 {
     let mut v = x;
     let mut i = n;
-    while 0 < i {
-        i = i - 1;
-        out[i] = digit_letter(v % base, upper);
-        v = v / base;
+    while 1 < i {
+        i = i - 2;
+        let pair = v % (base * base);
+        out[i + 1] = digit_letter(pair % base, upper);
+        out[i] = digit_letter(pair / base, upper);
+        v = v / (base * base);
+    }
+    if 0 < i {
+        out[0] = digit_letter(v % base, upper);
     }
     n
 }

@@ -23,26 +23,26 @@ loop-holds : tie.Need-loop-holds Inv-loop μ-loop
 unfolding allBytes
 loop-holds c = (omega arith, sym (laid-none (c .before .before .args .ends .now)), refl)
 
-mul-put-end : tie.Need-mul-put-end Inv-loop μ-loop
-mul-put-end c = omega (arith, c .before .before .before .before .pre, c .before .loop .inv .2)
+mul-write-end : tie.Need-mul-write-end Inv-loop μ-loop
+mul-write-end c = omega (arith, c .before .before .before .before .pre, c .before .loop .inv .2)
 
-sub-put-end : tie.Need-sub-put-end Inv-loop μ-loop
-sub-put-end c = omega (arith, c .before .before .before .before .pre, c .before .loop .inv .2)
+sub-write-end : tie.Need-sub-write-end Inv-loop μ-loop
+sub-write-end c = omega (arith, c .before .before .before .before .pre, c .before .loop .inv .2)
 
-part-put-end-start : tie.Need-part-put-end-start Inv-loop μ-loop
-part-put-end-start c = omega (arith, c .before .before .before .before .pre, c .before .loop .inv .2)
+part-write-end-start : tie.Need-part-write-end-start Inv-loop μ-loop
+part-write-end-start c = omega (arith, c .before .before .before .before .pre, c .before .loop .inv .2)
 
-part-put-end-end : tie.Need-part-put-end-end Inv-loop μ-loop
-part-put-end-end c = search needs
+part-write-end-end : tie.Need-part-write-end-end Inv-loop μ-loop
+part-write-end-end c = search needs
 
-mul-put-end-2 : tie.Need-mul-put-end-2 Inv-loop μ-loop
-mul-put-end-2 c = omega (arith, c .before .before .before .before .before .pre, c .before .before .loop .inv .2)
+mul-write-end-2 : tie.Need-mul-write-end-2 Inv-loop μ-loop
+mul-write-end-2 c = omega (arith, c .before .before .before .before .before .pre, c .before .before .loop .inv .2)
 
-shared-slice-read-put-end : tie.Need-shared-slice-read-put-end Inv-loop μ-loop
-shared-slice-read-put-end c = search needs
+shared-slice-read-write-end : tie.Need-shared-slice-read-write-end Inv-loop μ-loop
+shared-slice-read-write-end c = search needs
 
-put-end-requires : tie.Need-put-end-requires Inv-loop μ-loop
-put-end-requires c κs = simp (length-take, length-drop) (omega (arith, c .before .before .before .before .before .before .pre, c .before .before .before .loop .inv .2))
+write-end-requires : tie.Need-write-end-requires Inv-loop μ-loop
+write-end-requires c κs = simp (length-take, length-drop) (omega (arith, c .before .before .before .before .before .before .pre, c .before .before .before .loop .inv .2))
 
 add-k : tie.Need-add-k Inv-loop μ-loop
 add-k c = search needs
@@ -57,7 +57,7 @@ loop-again c =
     let s = c .before .before .before .before .before .before .before .before .before .args .slots .now in
     let k : l .k < length s = search needs in
     let t : length (allBytes (take (l .k) s)) ≡ 4 * l .k = bytes-length (take (l .k) s) ∙ ap (λ (m : ℕ). 4 * m) (length-take-le (l .k) s (omega arith)) in
-    let o = laid-next d (allBytes (take (l .k) s)) (endBytes (getD s (l .k) 0)) (l .ends) (c .before .before .put-end .last .0) (4 * l .k) (l .inv .1) t (c .before .before .put-end .ensures) ∙ ap (laid d) (sym (bytes-next s (l .k) k)) in
+    let o = laid-next d (allBytes (take (l .k) s)) (endBytes (getD s (l .k) 0)) (l .ends) (c .before .before .write-end .last .0) (4 * l .k) (l .inv .1) t (c .before .before .write-end .ensures) ∙ ap (laid d) (sym (bytes-next s (l .k) k)) in
     let e : suc (l .k) ≡ l .k + 1 = omega arith in
     let o₁ = o ∙ ap (λ (m : ℕ). laid d (allBytes (take m s))) e in
     (omega arith, o₁, ap length o ∙ length-laid d (allBytes (take (suc (l .k)) s)) (omega (arith, bytes-length (take (suc (l .k)) s), length-take-le (suc (l .k)) s k, c .before .before .before .before .before .before .before .before .before .pre)))
@@ -78,13 +78,13 @@ store-ends-spec =
     Inv-loop
     μ-loop
     loop-holds
-    mul-put-end
-    sub-put-end
-    part-put-end-start
-    part-put-end-end
-    mul-put-end-2
-    shared-slice-read-put-end
-    put-end-requires
+    mul-write-end
+    sub-write-end
+    part-write-end-start
+    part-write-end-end
+    mul-write-end-2
+    shared-slice-read-write-end
+    write-end-requires
     add-k
     loop-less
     loop-again

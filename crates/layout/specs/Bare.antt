@@ -1,0 +1,12 @@
+-- For speed alone: no contract of an entry speaks of this.
+use Prim.Native.Nat.{ℕ, _+_}
+use mathlib.Core.Bool.{Bool}
+use lib.Dec.{eqb}
+use lib.ListN.{length}
+use Rattle.layout.specs.Frame.{byteText, closingByte, marks}
+use Rattle.layout.specs.declared.Mark.{Mark}
+use Rattle.layout.specs.declared.Prefix.{Prefix}
+
+-- Whether there is nothing to write around a text: no width, mark or prefix.
+abbrev pub isBare : ℕ → Mark → Prefix → Bool
+isBare width m p = eqb (width + length (marks m p) + length (byteText (closingByte m))) 0
