@@ -1,6 +1,6 @@
 // The text of a row's value under an element: its length, and its writer, which writes where there is room.
-// Ported from format_string.rs of datafusion-spark 55.2.0 (Apache-2.0; see NOTICE): format_integer, format_signed, format_unsigned, format_char,
-// format_boolean, format_string and format_hex_float.
+// Ported from format_string.rs of datafusion-spark 55.2.0 (Apache-2.0; see NOTICE): format_integer, format_signed and format_unsigned (here the numeral of an
+// integer, and its writer put_numeral), format_char, format_boolean, format_string and format_hex_float.
 use binary64::FpCategory;
 use conversions::Form;
 use conversions::IntegerForm;
@@ -24,11 +24,6 @@ ghost use Rattle.binary64.specs.Fields.{categoryOf};
 ghost use Rattle.conversions.specs.declared.Form.the-variants as F;
 ghost use Rattle.elements.specs.Texts.{widthOf, side, fill, paddedText, paddedNumber, formatString, signMark, integerMark, ifAlternate, hexPrefix, signedText, charText, floatMark, finiteText, floatText, integerText, valueText, elementText, textOf};
 ghost use Rattle.elements.specs.Sizes.{Sized, digitsText, signedNumeral, unsignedNumeral, numeralOf};
-
-// The refusals of this crate, by their numbers in 01's table, "What stops a call".
-pub const NOT_PRINTED: u8 = 15;
-
-pub const NO_SCALAR: u8 = 16;
 
 // The length of a text, or the number that stops it.
 pub enum Size {
@@ -229,7 +224,7 @@ fn put_numeral(out: &mut [u8], e: Element, n: Numeral) -> u64
 }
 
 // %d
-fn format_signed(flags: Flags, value: u64) -> Numeral
+fn signed_numeral(flags: Flags, value: u64) -> Numeral
     ensures { λ r. ⌜ r ≡ signedNumeral flags value ⌝ }
 {
     Numeral {
@@ -243,7 +238,7 @@ fn format_signed(flags: Flags, value: u64) -> Numeral
 }
 
 // %x and %o of the bits of an integer.
-fn format_unsigned(prefix: Prefix, base: u64, upper: bool, bits: u64) -> Numeral
+fn unsigned_numeral(prefix: Prefix, base: u64, upper: bool, bits: u64) -> Numeral
     ensures { λ r. ⌜ r ≡ unsignedNumeral prefix base upper bits ⌝ }
 {
     Numeral {
@@ -263,15 +258,15 @@ fn numeral_of(e: Element, radix: Radix, width: u32, value: u64) -> Numeral
     let flags = e.flags;
     let conversion = e.conversion;
     match radix {
-        Radix::Decimal => format_signed(flags, value),
+        Radix::Decimal => signed_numeral(flags, value),
         Radix::Octal => {
             let bits = numerals::low_bits(value, width);
-            format_unsigned(if_alternate(flags, Prefix::Octal), 8, false, bits)
+            unsigned_numeral(if_alternate(flags, Prefix::Octal), 8, false, bits)
         }
         Radix::Hexadecimal => {
             let upper = conversions::is_upper(conversion);
             let bits = numerals::low_bits(value, width);
-            format_unsigned(if_alternate(flags, hex_prefix(upper)), 16, upper, bits)
+            unsigned_numeral(if_alternate(flags, hex_prefix(upper)), 16, upper, bits)
         }
     }
 }
@@ -281,7 +276,7 @@ fn format_char(out: &mut [u8], e: Element, value: u64) -> Size
     ensures { λ r. ⌜ Sized (now (out .entry)) (charText e (isNegative (intOf 64 value)) (natAbs (intOf 64 value))) r (now (out .exit)) ⌝ }
 {
     if numerals::is_negative(value) {
-        return Size::Stops(NO_SCALAR);
+        return Size::Stops(refusals::NO_SCALAR);
     }
     let magnitude = numerals::magnitude(value);
     if strings::is_scalar(magnitude) {
@@ -289,11 +284,11 @@ fn format_char(out: &mut [u8], e: Element, value: u64) -> Size
         let n = strings::write_scalar(&mut buffer, magnitude as u32);
         return Size::Bytes(put_padded(out, e, Mark::NoMark, &buffer[..n]));
     }
-    Size::Stops(NO_SCALAR)
+    Size::Stops(refusals::NO_SCALAR)
 }
 
 // Writes an integer's digits as text. Answers the length.
-fn write_signed(out: &mut [u8], negative: bool, magnitude: u64) -> usize
+fn write_signed_text(out: &mut [u8], negative: bool, magnitude: u64) -> usize
     requires { ⌜ 21 ≤ length (now out) ⌝ }
     ensures { λ r. ⌜ Wrote (now (out .entry)) (signedText negative magnitude) r (now (out .exit)) × (r ≤ 21) ⌝ }
 {
@@ -306,11 +301,11 @@ fn write_signed(out: &mut [u8], negative: bool, magnitude: u64) -> usize
 }
 
 // %s of an integer
-fn format_digits(out: &mut [u8], e: Element, value: u64) -> u64
+fn format_signed_text(out: &mut [u8], e: Element, value: u64) -> u64
     ensures { λ r. ⌜ Put (now (out .entry)) (formatString e (signedText (isNegative (intOf 64 value)) (natAbs (intOf 64 value)))) r (now (out .exit)) × (r < 2 ^ 42) ⌝ }
 {
     let mut buffer = [0u8; 21];
-    let n = write_signed(
+    let n = write_signed_text(
         &mut buffer,
         numerals::is_negative(value),
         numerals::magnitude(value),
@@ -329,7 +324,7 @@ fn format_integer(out: &mut [u8], e: Element, form: IntegerForm, width: u32, val
             numeral_of(e, radix, width, value),
         )),
         IntegerForm::Scalar => format_char(out, e, value),
-        IntegerForm::Digits => Size::Bytes(format_digits(out, e, value)),
+        IntegerForm::Digits => Size::Bytes(format_signed_text(out, e, value)),
     }
 }
 
@@ -404,6 +399,6 @@ pub fn put_element(out: &mut [u8], e: Element, kind: u8, part: &[u8], value: u64
         Form::HexFloat => Size::Bytes(format_hex_float(out, e, value)),
         Form::Boolean => Size::Bytes(format_boolean(out, e, value)),
         Form::Text => Size::Bytes(format_string(out, e, part)),
-        Form::NotPrinted => Size::Stops(NOT_PRINTED),
+        Form::NotPrinted => Size::Stops(refusals::NOT_PRINTED),
     }
 }

@@ -182,9 +182,6 @@ pub enum NumericParam {
     FromArgument,
 }
 
-// The largest number that a format may write.
-pub const LARGEST_NUMBER: u32 = 2147483647;
-
 // The answer of take_number: the number and the place behind its digits, or a number above the largest.
 pub enum Number {
     Value { value: u32, next: usize },
@@ -234,7 +231,7 @@ pub fn take_number(s: &[u8], at: usize) -> Number
             };
         }
         let digit = (b - b'0') as u32;
-        if (LARGEST_NUMBER - digit) / 10 < value {
+        if (refusals::LARGEST_NUMBER - digit) / 10 < value {
             return Number::TooLarge;
         }
         value = value * 10 + digit;

@@ -12,15 +12,6 @@ ghost use lib.ListN.{length};
 ghost use Rattle.parsing.specs.Pieces.{start, passed, isIndex, within, indexAt, sameIndex, argumentAt, elementAt, pieceAt};
 ghost use Rattle.parsing.specs.Refusals.{IndexHanded, SpecifierHanded};
 
-// The refusals of this crate, by their numbers in 01's table, "What stops a call"; an element's own are in `specifiers`.
-pub const NO_ELEMENT_BEFORE: u8 = 4;
-
-pub const NO_INDEX: u8 = 5;
-
-pub const INDEX_TOO_LARGE: u8 = 6;
-
-pub const NO_ARGUMENT: u8 = 7;
-
 // The argument of an element: its index, the place behind it, and the running count.
 pub enum Index {
     Named {
@@ -87,7 +78,7 @@ fn named(argument: usize, next: usize, count: usize, kinds: usize) -> Index
 {
     if kinds < argument {
         return Index::Refused {
-            number: NO_ARGUMENT,
+            number: refusals::NO_SUCH_ARGUMENT,
         };
     }
     Index::Named {
@@ -102,19 +93,21 @@ fn take_index(fmt: &[u8], at: usize, count: usize, kinds: usize) -> Index
     ensures { λ r. ⌜ r ≡ indexAt (now (fmt .entry)) kinds at count ⌝ }
 {
     if specifiers::is_byte(fmt, at, b'$') {
-        return Index::Refused { number: NO_INDEX };
+        return Index::Refused {
+            number: refusals::NO_INDEX,
+        };
     }
     if is_index(fmt, at) {
         let Number::Value { value, next } = numerals::take_number(fmt, at) else {
             return Index::Refused {
-                number: INDEX_TOO_LARGE,
+                number: refusals::LARGE_NUMBER,
             };
         };
         return named(value as usize, next + 1, count, kinds);
     }
     if kinds <= count {
         return Index::Refused {
-            number: NO_ARGUMENT,
+            number: refusals::NO_SUCH_ARGUMENT,
         };
     }
     Index::Named {
@@ -130,7 +123,7 @@ fn same_index(last: usize, next: usize, count: usize, kinds: usize) -> Index
 {
     if last == 0 {
         return Index::Refused {
-            number: NO_ELEMENT_BEFORE,
+            number: refusals::NO_ELEMENT_BEFORE,
         };
     }
     named(last, next, count, kinds)
@@ -155,7 +148,9 @@ fn index_refusal(i: Index) -> Step
     ensures { λ r. ⌜ IndexHanded i r ⌝ }
 {
     let Index::Refused { number } = i else {
-        return Step::Refused { number: NO_INDEX };
+        return Step::Refused {
+            number: refusals::NO_INDEX,
+        };
     };
     Step::Refused { number: number }
 }
@@ -164,7 +159,9 @@ fn specifier_refusal(read: Specifier) -> Step
     ensures { λ r. ⌜ SpecifierHanded read r ⌝ }
 {
     let Specifier::Refused { number } = read else {
-        return Step::Refused { number: NO_INDEX };
+        return Step::Refused {
+            number: refusals::NO_INDEX,
+        };
     };
     Step::Refused { number: number }
 }

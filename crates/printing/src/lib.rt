@@ -20,28 +20,6 @@ ghost use Rattle.printing.specs.Printing.{texts, printedText, endsFrom, 
 ghost use Rattle.printing.specs.Passes.{TallyBelow, Walkable, Filled, Added, Walk, StopsAt, behind, withEnd, added, outcomeOf, checkedBy};
 ghost use Rattle.printing.specs.Demand.{Demanded};
 
-// The limits of 01's table, "What stops a call": the bytes of a format, its pieces, the kinds, the largest end.
-pub const MOST_FORMAT: usize = 4096;
-
-pub const MOST_PIECES: usize = 512;
-
-pub const MOST_KINDS: usize = 64;
-
-pub const LARGEST_END: u64 = 4294967295;
-
-// The refusals of this crate, by their numbers in that table; the others are in `specifiers`, `parsing` and `elements`.
-pub const TOO_LONG: u8 = 1;
-
-pub const MALFORMED: u8 = 2;
-
-pub const NO_KINDS: u8 = 3;
-
-pub const TOO_MANY: u8 = 13;
-
-pub const BROKEN_ROW: u8 = 14;
-
-pub const NO_ROOM: u8 = 17;
-
 // The answer of a call: the text's length and the number of pieces, or a refusal with its number and place.
 pub enum Outcome {
     Accepted { length: u64, pieces: u64 },
@@ -168,10 +146,10 @@ fn walk<'a>(
     let mut largest: usize = 0;
     while c.at < fmt.len() {
         let at = c.at;
-        if MOST_PIECES <= k {
+        if refusals::MOST_PIECES <= k {
             return Walked {
                 end: Ended::Stopped {
-                    number: TOO_MANY,
+                    number: refusals::MANY_PIECES,
                     place: at,
                 },
                 tally: tally,
@@ -249,27 +227,27 @@ fn checked_of(w: Walked) -> Checked
 pub fn check<'a>(fmt: &'a [u8], kinds: &'a [u8]) -> Checked
     ensures { λ r. ⌜ r ≡ checked (now (fmt .entry)) (now (kinds .entry)) ⌝ }
 {
-    if MOST_FORMAT < fmt.len() {
+    if refusals::MOST_FORMAT < fmt.len() {
         return Checked::Refused {
-            number: TOO_LONG,
+            number: refusals::LONG_FORMAT,
             place: 0,
         };
     }
     if !utf8::is_well_formed(fmt) {
         return Checked::Refused {
-            number: MALFORMED,
+            number: refusals::MALFORMED_FORMAT,
             place: 0,
         };
     }
-    if MOST_KINDS < kinds.len() {
+    if refusals::MOST_KINDS < kinds.len() {
         return Checked::Refused {
-            number: NO_KINDS,
+            number: refusals::BAD_KINDS,
             place: 0,
         };
     }
     if !all_known(kinds) {
         return Checked::Refused {
-            number: NO_KINDS,
+            number: refusals::BAD_KINDS,
             place: 0,
         };
     }
@@ -322,21 +300,21 @@ pub fn stage<'a>(fmt: &'a [u8], row: &'a [u8], out: &mut [u8], ends: &mut [u32])
     ensures { λ r. ⌜ r ≡ measured (now (fmt .entry)) (now (row .entry)) ⌝ }
     ensures { λ r. ⌜ Filled (now (fmt .entry)) (now (row .entry)) (now (out .entry)) (now (ends .entry)) r (now (out .exit)) (now (ends .exit)) ⌝ }
 {
-    if MOST_FORMAT < fmt.len() {
+    if refusals::MOST_FORMAT < fmt.len() {
         return Outcome::Refused {
-            number: TOO_LONG,
+            number: refusals::LONG_FORMAT,
             place: 0,
         };
     }
     if !utf8::is_well_formed(fmt) {
         return Outcome::Refused {
-            number: MALFORMED,
+            number: refusals::MALFORMED_FORMAT,
             place: 0,
         };
     }
     let RowRead::Row { count } = rows::read_row(row) else {
         return Outcome::Refused {
-            number: BROKEN_ROW,
+            number: refusals::BROKEN_ROW,
             place: 0,
         };
     };
@@ -360,14 +338,14 @@ pub fn fit(found: Outcome, room: u64, slots: u64) -> Outcome
         return found;
     };
     if length <= room {
-        if length <= LARGEST_END {
+        if length <= refusals::LARGEST_END {
             if pieces <= slots {
                 return found;
             }
         }
     }
     Outcome::Refused {
-        number: NO_ROOM,
+        number: refusals::NO_ROOM,
         place: 0,
     }
 }

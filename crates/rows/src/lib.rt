@@ -135,11 +135,6 @@ pub enum RowRead {
     Broken,
 }
 
-// The most values that a row may have, and the most bytes of text.
-pub const MOST_VALUES: u64 = 64;
-
-pub const MOST_TEXT: u64 = 32768;
-
 pub fn read_row(row: &[u8]) -> RowRead
     ensures { λ r. ⌜ r ≡ rowOf (now (row .entry)) ⌝ }
 {
@@ -148,10 +143,10 @@ pub fn read_row(row: &[u8]) -> RowRead
     }
     let n = number2(row, 0);
     let t = number4(row, 2);
-    if MOST_VALUES < n {
+    if refusals::MOST_VALUES < n {
         return RowRead::Broken;
     }
-    if MOST_TEXT < t {
+    if refusals::MOST_TEXT < t {
         return RowRead::Broken;
     }
     let count = n as usize;

@@ -12,19 +12,6 @@ ghost use Rattle.specifiers.specs.Flags.{flagOf, flagsFrom, noFlags};
 ghost use Rattle.specifiers.specs.Specifier.{beginsWith, precisionAt, timeLetterAt, letterAt, partsAt, specifierAt};
 ghost use Rattle.specifiers.specs.Refusals.{beginsLetter, FlagsHanded, PartsHanded, LetterHanded};
 
-// The refusals of this crate, by their numbers in 01's table, "What stops a call".
-pub const TOO_LARGE: u8 = 6;
-
-pub const ZERO_AFTER_MINUS: u8 = 8;
-
-pub const PLUS_AND_SPACE: u8 = 9;
-
-pub const NO_LETTER: u8 = 10;
-
-pub const NO_TIME_LETTER: u8 = 11;
-
-pub const UNFIT: u8 = 12;
-
 // The flags that were read. The original's names are alt_form, zero_pad, left_adj, space_sign, force_sign, grouping_separator and
 // negative_in_parentheses; a definition can name a field plainly only where it is one word.
 pub struct Flags {
@@ -98,7 +85,7 @@ fn with_flag(f: Flags, b: u8) -> FlagStep
         b'0' => {
             let left = f.left;
             if left {
-                return FlagStep::Clash(ZERO_AFTER_MINUS);
+                return FlagStep::Clash(refusals::ZERO_AFTER_MINUS);
             }
             g.zero = true;
             FlagStep::Set(g)
@@ -110,7 +97,7 @@ fn with_flag(f: Flags, b: u8) -> FlagStep
         b' ' => {
             let plus = f.plus;
             if plus {
-                return FlagStep::Clash(PLUS_AND_SPACE);
+                return FlagStep::Clash(refusals::PLUS_AND_SPACE);
             }
             g.space = true;
             FlagStep::Set(g)
@@ -118,7 +105,7 @@ fn with_flag(f: Flags, b: u8) -> FlagStep
         b'+' => {
             let space = f.space;
             if space {
-                return FlagStep::Clash(PLUS_AND_SPACE);
+                return FlagStep::Clash(refusals::PLUS_AND_SPACE);
             }
             g.plus = true;
             FlagStep::Set(g)
@@ -210,12 +197,12 @@ fn take_time_letter(fmt: &[u8], at: usize, upper: bool) -> LetterTaken
     let second = at + 1;
     if fmt.len() <= second {
         return LetterTaken::Refused {
-            number: NO_TIME_LETTER,
+            number: refusals::NO_TIME_LETTER,
         };
     }
     let TimeLetter::Component(x) = conversions::time_of(fmt[second]) else {
         return LetterTaken::Refused {
-            number: NO_TIME_LETTER,
+            number: refusals::NO_TIME_LETTER,
         };
     };
     if upper {
@@ -235,7 +222,9 @@ fn take_letter(fmt: &[u8], at: usize) -> LetterTaken
     ensures { λ r. ⌜ r ≡ letterAt (now (fmt .entry)) at ⌝ }
 {
     if fmt.len() <= at {
-        return LetterTaken::Refused { number: NO_LETTER };
+        return LetterTaken::Refused {
+            number: refusals::NO_LETTER,
+        };
     }
     let b = fmt[at];
     if b == b't' {
@@ -245,7 +234,9 @@ fn take_letter(fmt: &[u8], at: usize) -> LetterTaken
         return take_time_letter(fmt, at, true);
     }
     let Letter::Conversion(c) = conversions::conversion_of(b) else {
-        return LetterTaken::Refused { number: NO_LETTER };
+        return LetterTaken::Refused {
+            number: refusals::NO_LETTER,
+        };
     };
     LetterTaken::Read {
         conversion: c,
@@ -258,7 +249,9 @@ fn flags_refusal(t: FlagsTaken) -> PartsTaken
     ensures { λ r. ⌜ FlagsHanded t r ⌝ }
 {
     let FlagsTaken::Refused { number } = t else {
-        return PartsTaken::Refused { number: NO_LETTER };
+        return PartsTaken::Refused {
+            number: refusals::NO_LETTER,
+        };
     };
     PartsTaken::Refused { number: number }
 }
@@ -267,7 +260,9 @@ fn parts_refusal(t: PartsTaken) -> Specifier
     ensures { λ r. ⌜ PartsHanded t r ⌝ }
 {
     let PartsTaken::Refused { number } = t else {
-        return Specifier::Refused { number: NO_LETTER };
+        return Specifier::Refused {
+            number: refusals::NO_LETTER,
+        };
     };
     Specifier::Refused { number: number }
 }
@@ -276,7 +271,9 @@ fn letter_refusal(t: LetterTaken) -> Specifier
     ensures { λ r. ⌜ LetterHanded t r ⌝ }
 {
     let LetterTaken::Refused { number } = t else {
-        return Specifier::Refused { number: NO_LETTER };
+        return Specifier::Refused {
+            number: refusals::NO_LETTER,
+        };
     };
     Specifier::Refused { number: number }
 }
@@ -314,14 +311,18 @@ fn take_parts(fmt: &[u8], at: usize) -> PartsTaken
         next: p,
     } = numerals::take_numeric_param(fmt, w, false)
     else {
-        return PartsTaken::Refused { number: TOO_LARGE };
+        return PartsTaken::Refused {
+            number: refusals::LARGE_NUMBER,
+        };
     };
     let Taken::Param {
         param: precision,
         next: l,
     } = take_precision(fmt, p)
     else {
-        return PartsTaken::Refused { number: TOO_LARGE };
+        return PartsTaken::Refused {
+            number: refusals::LARGE_NUMBER,
+        };
     };
     PartsTaken::Read {
         parts: Parts {
@@ -364,5 +365,7 @@ pub fn take_conversion_specifier(fmt: &[u8], at: usize, argument: usize, kind: u
             next: end,
         };
     }
-    Specifier::Refused { number: UNFIT }
+    Specifier::Refused {
+        number: refusals::UNFIT_LETTER,
+    }
 }

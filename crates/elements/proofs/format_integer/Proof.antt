@@ -26,8 +26,8 @@ format-char-requires c κs = search needs
 enum-told-2 : tie.Need-enum-told-2
 enum-told-2 c = search needs
 
-format-digits-requires : tie.Need-format-digits-requires
-format-digits-requires c κs = search needs
+format-signed-text-requires : tie.Need-format-signed-text-requires
+format-signed-text-requires c κs = search needs
 
 same-length : tie.Need-same-length
 same-length c = search needs
@@ -57,7 +57,7 @@ returns-3 c =
     let put = c .before .before in
     let told = put .before .before in
     let a = told .before .before .before .args in
-    sized-text (a .out .now) _ _ _ _ (simp (told .enum-told2 .given .1)) (put .format-digits .ensures)
+    sized-text (a .out .now) _ _ _ _ (simp (told .enum-told2 .given .1)) (put .format-signed-text .ensures)
 
 pub format-integer-spec : {M : Type 1} → statement M
 format-integer-spec =
@@ -69,7 +69,7 @@ format-integer-spec =
     enum-told
     format-char-requires
     enum-told-2
-    format-digits-requires
+    format-signed-text-requires
     same-length
     returns
     same-length-2

@@ -6,8 +6,8 @@ use Rattle.elements.proofs.numeral_of.Tie as tie
 enum-told : tie.Need-enum-told
 enum-told c = search needs
 
-format-signed-requires : tie.Need-format-signed-requires
-format-signed-requires c κs = search needs
+signed-numeral-requires : tie.Need-signed-numeral-requires
+signed-numeral-requires c κs = search needs
 
 enum-told-2 : tie.Need-enum-told-2
 enum-told-2 c = search needs
@@ -18,8 +18,8 @@ low-bits-requires c κs = search needs
 if-alternate-requires : tie.Need-if-alternate-requires
 if-alternate-requires c κs = search needs
 
-format-unsigned-requires : tie.Need-format-unsigned-requires
-format-unsigned-requires c κs = search needs
+unsigned-numeral-requires : tie.Need-unsigned-numeral-requires
+unsigned-numeral-requires c κs = search needs
 
 enum-told-3 : tie.Need-enum-told-3
 enum-told-3 c = search needs
@@ -36,17 +36,17 @@ hex-prefix-requires c κs = search needs
 if-alternate-requires-2 : tie.Need-if-alternate-requires-2
 if-alternate-requires-2 c κs = search needs
 
-format-unsigned-requires-2 : tie.Need-format-unsigned-requires-2
-format-unsigned-requires-2 c κs = search needs
+unsigned-numeral-requires-2 : tie.Need-unsigned-numeral-requires-2
+unsigned-numeral-requires-2 c κs = search needs
 
 returns : tie.Need-returns
-returns c = simp (c .before .enum-told .given .1) (c .format-signed .ensures)
+returns c = simp (c .before .enum-told .given .1) (c .signed-numeral .ensures)
 
 returns-2 : tie.Need-returns-2
 returns-2 c =
     let prefixed = c .before in
     let bits = prefixed .before in
-    simp (bits .before .enum-told2 .given .1, ← bits .low-bits .ensures, ← prefixed .if-alternate .ensures) (c .format-unsigned .ensures)
+    simp (bits .before .enum-told2 .given .1, ← bits .low-bits .ensures, ← prefixed .if-alternate .ensures) (c .unsigned-numeral .ensures)
 
 returns-3 : tie.Need-returns-3
 returns-3 c =
@@ -60,24 +60,24 @@ returns-3 c =
       ← bits .low-bits2 .ensures,
       ← lettered .hex-prefix .ensures,
       ← prefixed .if-alternate2 .ensures,
-    ) (c .format-unsigned2 .ensures)
+    ) (c .unsigned-numeral2 .ensures)
 
 pub numeral-of-spec : {M : Type 1} → statement M
 numeral-of-spec =
     tie.close
     (tie.spec
     enum-told
-    format-signed-requires
+    signed-numeral-requires
     enum-told-2
     low-bits-requires
     if-alternate-requires
-    format-unsigned-requires
+    unsigned-numeral-requires
     enum-told-3
     is-upper-requires
     low-bits-requires-2
     hex-prefix-requires
     if-alternate-requires-2
-    format-unsigned-requires-2
+    unsigned-numeral-requires-2
     returns
     returns-2
     returns-3)

@@ -40,7 +40,9 @@ returns c =
     let tested = put .before .before in
     let asked = tested .before in
     let a = asked .before .before .before .args in
-    let b = ap (λ (w : ℕ). isBare w (a .n .mark) (a .n .prefix)) (sym (asked .before .width-of .ensures)) ∙ sym (asked .is-bare .ensures) ∙ tested .if1 .taken in
+    let b =
+        ap (λ (w : ℕ). isBare w (a .n .mark) (a .n .prefix)) (sym (asked .before .width-of .ensures)) ∙ sym (asked .is-bare .ensures)
+        ∙ tested .if1 .taken in
     let w = put .put-bare-numeral .ensures in
     (alone (a .out .now) (a .e) (a .n) _ _ b (w .0), w .1)
 

@@ -1,4 +1,4 @@
--- `elements::write_signed` meets its contract. Assumes nothing.
+-- `elements::write_signed_text` meets its contract. Assumes nothing.
 use Prim.Native.Nat.{ℕ, _≤_}
 use Prim.Native.Char.{code}
 use mathlib.Core.Path.{_≡_, refl, ap, _∙_}
@@ -12,8 +12,8 @@ use Rattle.numerals.specs.Digits.{digitsIn, lettersOf, decimal}
 use Rattle.numerals.proofs.Digits.{length-numeral, twenty-places}
 use Rattle.elements.proofs.Numbers.{numeral-in}
 use borrow.Author.Needs.{needs}
-use Rattle.elements.proofs.write_signed.Statement.{statement}
-use Rattle.elements.proofs.write_signed.Tie as tie
+use Rattle.elements.proofs.write_signed_text.Statement.{statement}
+use Rattle.elements.proofs.write_signed_text.Tie as tie
 
 -- the place behind decimal_len, from the end of each branch
 abbrev measured₁ : tie.After-slice-known2 → tie.After-decimal-len
@@ -86,8 +86,8 @@ returns-2 c =
     let wrote = rw (text (measured₂ c)) at (c .before .before .write-digits2 .ensures) in
     simp (c .before .before .before .before .if1 .left) (wrote, omega (arith, long (measured₂ c), wrote .0))
 
-pub write-signed-spec : {M : Type 1} → statement M
-write-signed-spec =
+pub write-signed-text-spec : {M : Type 1} → statement M
+write-signed-text-spec =
     tie.close
     (tie.spec
     decimal-len-requires

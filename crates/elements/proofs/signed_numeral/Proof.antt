@@ -1,7 +1,7 @@
--- `elements::format_signed` meets its contract. Assumes nothing.
+-- `elements::signed_numeral` meets its contract. Assumes nothing.
 use borrow.Author.Needs.{needs}
-use Rattle.elements.proofs.format_signed.Statement.{statement}
-use Rattle.elements.proofs.format_signed.Tie as tie
+use Rattle.elements.proofs.signed_numeral.Statement.{statement}
+use Rattle.elements.proofs.signed_numeral.Tie as tie
 
 is-negative-requires : tie.Need-is-negative-requires
 is-negative-requires c κs = search needs
@@ -15,6 +15,6 @@ magnitude-requires c κs = search needs
 returns : tie.Need-returns
 returns c = simp (c .magnitude .ensures, c .before .integer-mark .ensures, c .before .before .is-negative .ensures)
 
-pub format-signed-spec : {M : Type 1} → statement M
-format-signed-spec =
+pub signed-numeral-spec : {M : Type 1} → statement M
+signed-numeral-spec =
     tie.close (tie.spec is-negative-requires integer-mark-requires magnitude-requires returns)
