@@ -10,7 +10,8 @@ use lib.ListN.{length, replicate, length-append, length-replicate}
 use lib.Seq.{sets}
 use borrow.Author.Tests.{lt-ltb, le-ltb}
 use borrow.Rule.Slice.PartMut.{putMid, midOf}
-use Rattle.writing.specs.Laid.{laid, Wrote}
+use Rattle.writing.specs.Laid.{laid}
+use Rattle.writing.specs.Writers.{Wrote}
 use Rattle.writing.proofs.Laid.{laid-stores, laid-next}
 use Rattle.numerals.specs.Digits.{digitsIn, places, digits, lettersOf, numeral, decimal}
 use Rattle.numerals.proofs.Digits.{length-lettersIn, length-numeral, places-le}

@@ -5,7 +5,8 @@ use mathlib.Core.Bool.{false}
 use mathlib.Core.List.{List}
 use lib.ListN.{length}
 use Rattle.writing.proofs.Choose.{by-test}
-use Rattle.layout.specs.Frame.{spare, frameOf, framed, padded, isMinus, closingByte}
+use Rattle.layout.specs.Frame.{spare, frameOf, framed, padded, closingByte}
+use Rattle.layout.specs.Signs.{isMinus}
 use Rattle.layout.specs.declared.Adjust.{Adjust}
 use Rattle.layout.specs.declared.Adjust.the-variants.{Right, Left, Zeros}
 use Rattle.layout.specs.declared.Frame.{Frame}

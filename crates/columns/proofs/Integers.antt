@@ -14,7 +14,7 @@ use Rattle.writing.proofs.Choose.{by-test}
 use Rattle.numerals.specs.Digits.{digits, lettersOf, numeral, decimal}
 use Rattle.numerals.specs.Integers.{intOf, isNegative, signed, bitsOf, InWidth}
 use Rattle.numerals.proofs.Integers.{sign-magnitude, intOf-low, intOf-high, low-bits}
-use Rattle.layout.specs.Frame.{isMinus}
+use Rattle.layout.specs.Signs.{isMinus}
 use Rattle.layout.specs.declared.Mark.{Mark}
 use Rattle.layout.specs.declared.Mark.the-variants.{NoMark}
 use Rattle.layout.specs.declared.Prefix.{Prefix}

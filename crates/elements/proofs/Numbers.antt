@@ -10,8 +10,10 @@ use lib.ListN.{length, take, drop}
 use lib.Seq.{take-at}
 use borrow.Author.Tests.{ltb-true, leb-true}
 use Rattle.writing.specs.Choose.{choose}
-use Rattle.writing.specs.Laid.{laid, Wrote}
-use Rattle.numerals.specs.Digits.{digitsIn, places, digits, lettersOf, numeral, decimal, IsBase}
+use Rattle.writing.specs.Laid.{laid}
+use Rattle.writing.specs.Writers.{Wrote}
+use Rattle.numerals.specs.Digits.{digitsIn, places, digits, lettersOf, numeral, decimal}
+use Rattle.numerals.specs.Bases.{IsBase}
 use Rattle.numerals.specs.Grouping.{grouped}
 use Rattle.numerals.specs.Integers.{intOf, isNegative}
 use Rattle.layout.specs.declared.Prefix.the-variants.{NoPrefix}

@@ -2,7 +2,7 @@
 use mathlib.Core.Path.{_≡_, sym, ap, _∙_}
 use mathlib.Core.List.{List}
 use Prim.Native.Nat.{ℕ, _^_, _<_}
-use Rattle.writing.specs.Laid.{laidIfRoom, Put}
+use Rattle.writing.specs.Writers.{laidIfRoom, Put}
 use Rattle.writing.proofs.Laid.{none-laid}
 use Rattle.elements.specs.Texts.{Shown, Text, Stops, textOf}
 use Rattle.elements.specs.Sizes.{Sized, sizeOf}

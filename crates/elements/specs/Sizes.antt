@@ -6,7 +6,7 @@ use mathlib.Core.List.{List}
 use lib.ListN.{length}
 use lib.IntN.{natAbs}
 use Rattle.writing.specs.Choose.{choose}
-use Rattle.writing.specs.Laid.{laidIfRoom}
+use Rattle.writing.specs.Writers.{laidIfRoom}
 use Rattle.numerals.specs.Digits.{numeral, decimal}
 use Rattle.numerals.specs.Grouping.{grouped}
 use Rattle.numerals.specs.Integers.{intOf, isNegative}

@@ -5,7 +5,8 @@ use Prim.Native.Nat.{ℕ, _+_, _-_}
 use native.Mathlib.Omega.{arith}
 use lib.ListN.{length, replicate, length-append, length-replicate}
 use borrow.Rule.Slice.PartMut.{putMid, midOf}
-use Rattle.writing.specs.Laid.{laid, Wrote}
+use Rattle.writing.specs.Laid.{laid}
+use Rattle.writing.specs.Writers.{Wrote}
 use Rattle.writing.proofs.Laid.{laid-next}
 
 -- what a fill wrote

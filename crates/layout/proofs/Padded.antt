@@ -7,7 +7,7 @@ use native.Mathlib.Omega.{arith}
 use lib.ListN.{length, drop-of-length-le}
 use borrow.Author.Tests.{eqb-true}
 use borrow.Rule.Slice.PartMut.{putMid, midOf}
-use Rattle.writing.specs.Laid.{Wrote, Put}
+use Rattle.writing.specs.Writers.{Wrote, Put}
 use Rattle.writing.proofs.Laid.{laid-room, laid-no-room}
 use Rattle.layout.specs.Frame.{byteText, closingByte, marks, headText, tailText, framed, spare, frameOf, padded}
 use Rattle.layout.specs.Bare.{isBare}

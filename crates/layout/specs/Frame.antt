@@ -1,7 +1,6 @@
 -- What stands around the text of a value: spaces, mark, prefix and zeros in front of it, spaces and a closing mark behind it.
 use Prim.Native.Nat.{ℕ, zero, suc, _+_, _-_}
 use Prim.Native.Char.{code}
-use mathlib.Core.Bool.{Bool, true, false}
 use mathlib.Core.List.{List, [], _∷_, _++_}
 use lib.ListN.{length, replicate}
 use Rattle.layout.specs.declared.Mark.{Mark}
@@ -32,14 +31,6 @@ closingByte Plus = 0
 closingByte Space = 0
 closingByte Minus = 0
 closingByte Brackets = code ")"
-
--- Whether it is the mark of a negative number.
-abbrev pub isMinus : Mark → Bool
-isMinus NoMark = false
-isMinus Plus = false
-isMinus Space = false
-isMinus Minus = true
-isMinus Brackets = true
 
 -- 01: "`#` puts `0x`, `0X` or `0` in front, zeros of padding after it." Its zero and its letter:
 abbrev pub prefixZero : Prefix → ℕ

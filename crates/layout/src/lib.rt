@@ -5,7 +5,7 @@ ghost use mathlib.Core.Path.{_≡_};
 ghost use mathlib.Core.List.{List, _++_};
 ghost use Prim.Native.Nat.{_+_, _^_, _≤_, _<_};
 ghost use lib.ListN.{length};
-ghost use Rattle.writing.specs.Laid.{Wrote};
+ghost use Rattle.writing.specs.Writers.{Wrote};
 ghost use Rattle.layout.specs.Frame.{byteText, openingByte, closingByte, prefixZero, prefixLetter, marks, headText, tailText, spare, frameOf};
 ghost use Rattle.layout.specs.Bare.{isBare};
 

@@ -5,7 +5,8 @@ use Prim.Native.Nat.{ℕ, _^_, _≤_, _<_}
 use native.Mathlib.Omega.{arith}
 use lib.Dec.{T, eqb, lit≤}
 use borrow.Author.Tests.{eqb-true}
-use Rattle.numerals.specs.Digits.{places, IsBase}
+use Rattle.numerals.specs.Digits.{places}
+use Rattle.numerals.specs.Bases.{IsBase}
 use Rattle.numerals.proofs.Digits.{places-le}
 
 -- what holds of 8, 10 and 16 holds of a base in use

@@ -1,9 +1,9 @@
 -- Positional numerals: the digits of a whole number in a base, most significant first, and the number that digits denote.
 use Prim.Native.Nat.{ℕ, zero, suc, _+_, _-_, _*_, _/_, _%_}
 use Prim.Native.Char.{code}
-use mathlib.Core.Bool.{Bool, false, _||_}
+use mathlib.Core.Bool.{Bool, false}
 use mathlib.Core.List.{List, [], _∷_, _++_, map}
-use lib.Dec.{T, ltb, eqb}
+use lib.Dec.{ltb}
 use Rattle.writing.specs.Choose.{choose}
 
 -- The k lowest digits of n in base b, leading zeros included: the number n % b ^ k at k places.
@@ -46,7 +46,3 @@ numeral upper b n = lettersOf upper (digits b n)
 
 abbrev pub decimal : ℕ → List ℕ
 decimal n = numeral false 10 n
-
--- The bases in use.
-abbrev pub IsBase : ℕ → Type 0
-IsBase b = T (eqb b 8 || eqb b 10 || eqb b 16)

@@ -2,3 +2,4 @@ pub mod Digits
 pub mod Grouping
 pub mod Integers
 pub mod Params
+pub mod Bases

@@ -6,7 +6,7 @@ use mathlib.Core.List.{List}
 use mathlib.Core.Option.{Option, none, some}
 use native.Mathlib.Omega.{arith}
 use lib.ListN.{length}
-use Rattle.writing.specs.Laid.{Put}
+use Rattle.writing.specs.Writers.{Put}
 use Rattle.layout.specs.declared.Mark.the-variants.{NoMark}
 use Rattle.conversions.specs.Kinds.{printsAs}
 use Rattle.conversions.specs.declared.Form.{Form}

@@ -7,7 +7,8 @@ use native.Mathlib.Nat.{min-eq-left, mod-eq-of-lt}
 use lib.ListN.{length, take, drop, set, length-append, length-drop, take-append-drop}
 use lib.Seq.{take-at, drop-append-add, drop-drop, length-take-le}
 use borrow.Rule.Slice.PartMut.{putMid, midOf}
-use Rattle.writing.specs.Laid.{laid, laidIfRoom}
+use Rattle.writing.specs.Laid.{laid}
+use Rattle.writing.specs.Writers.{laidIfRoom}
 use Rattle.writing.proofs.Laid.{laid-more, laid-room, laid-next}
 use Rattle.parsing.specs.declared.Piece.{Piece}
 use Rattle.elements.specs.Sizes.{Sized}

@@ -16,7 +16,8 @@ use Rattle.writing.specs.Choose.{choose}
 use Rattle.numerals.specs.Digits.{digits, digitsIn, letterOf, lettersOf, numberFrom, numberOf, decimal}
 use Rattle.numerals.proofs.Digits.{Below, below-append, below-digitsIn, below-zeros, letters-append}
 use Rattle.numerals.proofs.Digits.{length-letters, length-digitsIn, number-append, number-zeros, number-digitsIn}
-use Rattle.layout.specs.Frame.{byteText, closingByte, isMinus, marks}
+use Rattle.layout.specs.Frame.{byteText, closingByte, marks}
+use Rattle.layout.specs.Signs.{isMinus}
 use Rattle.layout.specs.declared.Mark.{Mark}
 use Rattle.layout.specs.declared.Mark.the-variants.{NoMark, Plus, Space, Minus, Brackets}
 use Rattle.layout.specs.declared.Prefix.{Prefix}

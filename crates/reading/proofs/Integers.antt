@@ -15,7 +15,8 @@ use Rattle.numerals.specs.Grouping.{grouped}
 use Rattle.numerals.specs.Integers.{signed}
 use Rattle.numerals.proofs.Digits.{Below, below-append, below-digitsIn, below-zeros, letters-append}
 use Rattle.numerals.proofs.Digits.{length-digitsIn, number-append, number-zeros, number-digits, places-pos}
-use Rattle.layout.specs.Frame.{byteText, closingByte, isMinus, marks, spaces, headText, tailText, framed}
+use Rattle.layout.specs.Frame.{byteText, closingByte, marks, spaces, headText, tailText, framed}
+use Rattle.layout.specs.Signs.{isMinus}
 use Rattle.layout.specs.declared.Mark.{Mark}
 use Rattle.layout.specs.declared.Mark.the-variants.{NoMark, Plus, Space, Minus, Brackets}
 use Rattle.layout.specs.declared.Prefix.{Prefix}

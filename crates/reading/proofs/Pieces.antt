@@ -10,7 +10,8 @@ use Rattle.writing.specs.Choose.{choose}
 use Rattle.numerals.specs.Digits.{digits, lettersOf}
 use Rattle.numerals.specs.Integers.{signed}
 use Rattle.numerals.specs.declared.NumericParam.{NumericParam}
-use Rattle.layout.specs.Frame.{closingByte, isMinus}
+use Rattle.layout.specs.Frame.{closingByte}
+use Rattle.layout.specs.Signs.{isMinus}
 use Rattle.layout.specs.declared.Mark.{Mark}
 use Rattle.layout.specs.declared.Mark.the-variants.{NoMark}
 use Rattle.layout.specs.declared.Prefix.{Prefix}

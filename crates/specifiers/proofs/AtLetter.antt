@@ -14,14 +14,15 @@ use Rattle.specifiers.specs.Flags.{noFlags, flagOf, flagsFrom}
 use Rattle.specifiers.specs.Specifier.{beginsWith, precisionAt, partsAt}
 use Rattle.specifiers.specs.Refusals.{beginsLetter}
 use Rattle.specifiers.specs.declared.Flags.{Flags}
-use Rattle.specifiers.specs.declared.FlagStep.the-variants.{Ends}
+use Rattle.specifiers.specs.declared.FlagStep.the-variants.{Stops}
+use Rattle.specifiers.specs.declared.FlagStop.the-variants.{NoFlag}
 use Rattle.specifiers.specs.declared.FlagsTaken.the-variants as F
 use Rattle.specifiers.specs.declared.PartsTaken.the-variants as P
 
 other : (b k : ℕ) → k < b → eqb b k ≡ false
 other b k h = ne-eqb b k (λ e. omega arith)
 
-no-flag : (f : Flags) (b : ℕ) → code "A" ≤ b → flagOf f b ≡ Ends
+no-flag : (f : Flags) (b : ℕ) → code "A" ≤ b → flagOf f b ≡ Stops NoFlag
 unfolding flagOf
 no-flag f b h =
     simp (

@@ -29,7 +29,8 @@ use Rattle.specifiers.specs.Specifier.{timeCase, oneLetter, timeLetter, 
 use Rattle.specifiers.specs.Specifier.{afterLetter, afterParts, specifierAt}
 use Rattle.specifiers.specs.declared.Flags.{Flags}
 use Rattle.specifiers.specs.declared.FlagStep.{FlagStep}
-use Rattle.specifiers.specs.declared.FlagStep.the-variants.{Set, Ends, Clash}
+use Rattle.specifiers.specs.declared.FlagStep.the-variants.{Set, Stops}
+use Rattle.specifiers.specs.declared.FlagStop.the-variants.{NoFlag, Clash}
 use Rattle.specifiers.specs.declared.FlagsTaken.{FlagsTaken}
 use Rattle.specifiers.specs.declared.FlagsTaken.the-variants as F
 use Rattle.specifiers.specs.declared.LetterTaken.{LetterTaken}
@@ -82,8 +83,8 @@ flags-on (b ∷ l) at f = go (flagOf f b) (λ g. flags-on l (at + 1) g)
 
     go : (x : FlagStep) → ((g : Flags) → FlagsOn (at + 1) (flagsFrom l (at + 1) g)) → FlagsOn at (afterFlag x (λ g. flagsFrom l (at + 1) g) at f)
     go (Set g) ih = behind (flagsFrom l (at + 1) g) (ih g)
-    go Ends ih = omega arith
-    go (Clash n) ih = tt
+    go (Stops NoFlag) ih = omega arith
+    go (Stops (Clash n)) ih = tt
 
 -- A letter ends behind the place where it begins, inside the format.
 abbrev LetterIn : ℕ → ℕ → LetterTaken → Type 0

@@ -6,7 +6,9 @@ use mathlib.Core.List.{List, [], _∷_}
 use Rattle.conversions.specs.Letters.{lookup}
 use Rattle.specifiers.specs.declared.Flags.{Flags}
 use Rattle.specifiers.specs.declared.FlagStep.{FlagStep}
-use Rattle.specifiers.specs.declared.FlagStep.the-variants.{Set, Ends, Clash}
+use Rattle.specifiers.specs.declared.FlagStep.the-variants.{Set, Stops}
+use Rattle.specifiers.specs.declared.FlagStop.{FlagStop}
+use Rattle.specifiers.specs.declared.FlagStop.the-variants.{NoFlag, Clash}
 use Rattle.specifiers.specs.declared.FlagsTaken.{FlagsTaken}
 use Rattle.specifiers.specs.declared.FlagsTaken.the-variants.{Read, Refused}
 
@@ -41,20 +43,23 @@ withBracket f = flags (f .alternate) (f .zero) (f .left) (f .space) (f .plus) (f
 
 -- What a byte does to the flags read so far. 01's table: 8 for "`0` after `-`", 9 for "both `+` and space".
 abbrev pub unlessSet : Bool → ℕ → Flags → FlagStep
-unlessSet true number g = Clash number
+unlessSet true number g = Stops (Clash number)
 unlessSet false number g = Set g
 
 unfoldable pub flagOf : Flags → ℕ → FlagStep
 flagOf f b =
-    lookup code (λ x. x) Ends
+    lookup code (λ x. x) (Stops NoFlag)
     (("#", Set (withAlt f)) ∷ ("0", unlessSet (f .left) 8 (withZero f)) ∷ ("-", Set (withLeft f)) ∷ (" ", unlessSet (f .plus) 9 (withSpace f))
     ∷ ("+", unlessSet (f .space) 9 (withPlus f)) ∷ (",", Set (withComma f)) ∷ ("(", Set (withBracket f)) ∷ []) b
 
 -- The flags that a text begins with, from the place i on, after the flags f; and the place behind them.
+abbrev pub stoppedAt : FlagStop → ℕ → Flags → FlagsTaken
+stoppedAt NoFlag i f = Read f i
+stoppedAt (Clash number) i f = Refused number
+
 abbrev pub afterFlag : FlagStep → (Flags → FlagsTaken) → ℕ → Flags → FlagsTaken
 afterFlag (Set g) rest i f = rest g
-afterFlag Ends rest i f = Read f i
-afterFlag (Clash number) rest i f = Refused number
+afterFlag (Stops stop) rest i f = stoppedAt stop i f
 
 unfoldable pub flagsFrom : List ℕ → ℕ → Flags → FlagsTaken
 flagsFrom [] i f = Read f i

@@ -5,6 +5,10 @@ use mathlib.Core.Path.{_≡_}
 use mathlib.Core.Bool.{Bool, false}
 use mathlib.Core.List.{List, [], _∷_}
 use lib.Dec.{leb}
+use Rattle.specifiers.specs.Flags.{stoppedAt}
+use Rattle.specifiers.specs.declared.Flags.{Flags}
+use Rattle.specifiers.specs.declared.FlagStep.{FlagStep}
+use Rattle.specifiers.specs.declared.FlagStep.the-variants as T
 use Rattle.specifiers.specs.declared.FlagsTaken.{FlagsTaken}
 use Rattle.specifiers.specs.declared.FlagsTaken.the-variants as F
 use Rattle.specifiers.specs.declared.PartsTaken.{PartsTaken}
@@ -13,6 +17,11 @@ use Rattle.specifiers.specs.declared.LetterTaken.{LetterTaken}
 use Rattle.specifiers.specs.declared.LetterTaken.the-variants as L
 use Rattle.specifiers.specs.declared.Specifier.{Specifier}
 use Rattle.specifiers.specs.declared.Specifier.the-variants as S
+
+-- Flags that stop; nothing is asked of a step that sets one.
+abbrev pub StopHanded : FlagStep → Flags → ℕ → FlagsTaken → Type 0
+StopHanded (T.Set g) f at r = Unit {0}
+StopHanded (T.Stops stop) f at r = r ≡ stoppedAt stop at f
 
 -- A refusal keeps its number; nothing is asked of what was read.
 abbrev pub FlagsHanded : FlagsTaken → PartsTaken → Type 0

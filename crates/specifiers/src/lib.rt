@@ -10,7 +10,7 @@ ghost use Prim.Native.Nat.{_<_};
 ghost use lib.ListN.{length, drop};
 ghost use Rattle.specifiers.specs.Flags.{flagOf, flagsFrom, noFlags};
 ghost use Rattle.specifiers.specs.Specifier.{beginsWith, precisionAt, timeLetterAt, letterAt, partsAt, specifierAt};
-ghost use Rattle.specifiers.specs.Refusals.{beginsLetter, FlagsHanded, PartsHanded, LetterHanded};
+ghost use Rattle.specifiers.specs.Refusals.{beginsLetter, StopHanded, FlagsHanded, PartsHanded, LetterHanded};
 
 // The flags that were read. The original's names are alt_form, zero_pad, left_adj, space_sign, force_sign, grouping_separator and
 // negative_in_parentheses; a definition can name a field plainly only where it is one word.
@@ -24,10 +24,15 @@ pub struct Flags {
     pub parentheses: bool,
 }
 
-// What a byte does to the flags: one more is set, the flags end before it, or it clashes with an earlier one.
+// What a byte does to the flags: one more is set, or they stop.
 pub enum FlagStep {
     Set(Flags),
-    Ends,
+    Stops(FlagStop),
+}
+
+// Why flags stop: the byte is none, or it clashes with an earlier one.
+pub enum FlagStop {
+    NoFlag,
     Clash(u8),
 }
 
@@ -85,7 +90,7 @@ fn with_flag(f: Flags, b: u8) -> FlagStep
         b'0' => {
             let left = f.left;
             if left {
-                return FlagStep::Clash(refusals::ZERO_AFTER_MINUS);
+                return FlagStep::Stops(FlagStop::Clash(refusals::ZERO_AFTER_MINUS));
             }
             g.zero = true;
             FlagStep::Set(g)
@@ -97,7 +102,7 @@ fn with_flag(f: Flags, b: u8) -> FlagStep
         b' ' => {
             let plus = f.plus;
             if plus {
-                return FlagStep::Clash(refusals::PLUS_AND_SPACE);
+                return FlagStep::Stops(FlagStop::Clash(refusals::PLUS_AND_SPACE));
             }
             g.space = true;
             FlagStep::Set(g)
@@ -105,7 +110,7 @@ fn with_flag(f: Flags, b: u8) -> FlagStep
         b'+' => {
             let space = f.space;
             if space {
-                return FlagStep::Clash(refusals::PLUS_AND_SPACE);
+                return FlagStep::Stops(FlagStop::Clash(refusals::PLUS_AND_SPACE));
             }
             g.plus = true;
             FlagStep::Set(g)
@@ -118,7 +123,7 @@ fn with_flag(f: Flags, b: u8) -> FlagStep
             g.parentheses = true;
             FlagStep::Set(g)
         }
-        _ => FlagStep::Ends,
+        _ => FlagStep::Stops(FlagStop::NoFlag),
     }
 }
 
@@ -136,6 +141,24 @@ fn no_flags() -> Flags
     }
 }
 
+// Flags that stop at a place. It is asked of steps that stop alone.
+fn flags_stop(step: FlagStep, flags: Flags, at: usize) -> FlagsTaken
+    ensures { λ r. ⌜ StopHanded step flags at r ⌝ }
+{
+    let FlagStep::Stops(stop) = step else {
+        return FlagsTaken::Refused {
+            number: refusals::NO_LETTER,
+        };
+    };
+    match stop {
+        FlagStop::NoFlag => FlagsTaken::Read {
+            flags: flags,
+            next: at,
+        },
+        FlagStop::Clash(number) => FlagsTaken::Refused { number: number },
+    }
+}
+
 // The flags from the place at on.
 fn take_flags(fmt: &[u8], at: usize) -> FlagsTaken
     ensures { λ r. ⌜ r ≡ flagsFrom (drop at (now (fmt .entry))) at noFlags ⌝ }
@@ -144,21 +167,11 @@ fn take_flags(fmt: &[u8], at: usize) -> FlagsTaken
     let mut flags = no_flags();
     while i < fmt.len() {
         let step = with_flag(flags, fmt[i]);
-        match step {
-            FlagStep::Set(g) => {
-                flags = g;
-                i = i + 1;
-            }
-            FlagStep::Clash(n) => {
-                return FlagsTaken::Refused { number: n };
-            }
-            FlagStep::Ends => {
-                return FlagsTaken::Read {
-                    flags: flags,
-                    next: i,
-                };
-            }
-        }
+        let FlagStep::Set(g) = step else {
+            return flags_stop(step, flags, i);
+        };
+        flags = g;
+        i = i + 1;
     }
     FlagsTaken::Read {
         flags: flags,

@@ -6,7 +6,7 @@ ghost use mathlib.Core.Path.{_≡_};
 ghost use mathlib.Core.List.{map};
 ghost use Prim.Native.Nat.{_≤_, _<_};
 ghost use lib.ListN.{length};
-ghost use Rattle.writing.specs.Laid.{Wrote};
+ghost use Rattle.writing.specs.Writers.{Wrote};
 ghost use Rattle.strings.specs.Cut.{backTo, cutLength, cutTo, capital, cased};
 ghost use Rattle.strings.specs.Scalars.{isScalar, utf8Of};
 

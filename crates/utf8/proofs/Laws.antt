@@ -6,7 +6,8 @@ use lib.Seq.{drop-cons}
 use mathlib.Core.Bool.{Bool, true, false, _&&_}
 use mathlib.Core.List.{List, [], _∷_, _++_}
 use mathlib.Core.Path.{_≡_, refl, sym, ap, _∙_}
-use Rattle.utf8.specs.Utf8.{within, leadOf, afterLead, wellFormedFrom, wellFormed, largestOf}
+use Rattle.utf8.specs.Utf8.{within, leadOf, afterLead, wellFormedFrom, wellFormed}
+use Rattle.utf8.specs.Largest.{largestOf}
 use Rattle.utf8.specs.declared.Lead.{Lead}
 use Rattle.utf8.specs.declared.Lead.the-variants.{Follow, NoLead}
 use Rattle.utf8.proofs.Utf8.{lead-one}

@@ -1,5 +1,5 @@
 -- Well-formed UTF-8, as The Unicode Standard, table 3-7, "Well-Formed UTF-8 Byte Sequences", lists it.
-use Prim.Native.Nat.{ℕ, zero, suc, max}
+use Prim.Native.Nat.{ℕ, zero, suc}
 use mathlib.Core.Bool.{Bool, true, false, _&&_}
 use mathlib.Core.List.{List, [], _∷_}
 use lib.Dec.{leb}
@@ -40,8 +40,3 @@ wellFormedFrom (suc need) low high (b ∷ bs) = within low high b && wellFormedF
 
 unfoldable pub wellFormed : List ℕ → Bool
 wellFormed s = wellFormedFrom 0 0x80 0xbf s
-
--- The largest byte of a text, 0 for the empty one.
-unfoldable pub largestOf : List ℕ → ℕ
-largestOf [] = 0
-largestOf (b ∷ bs) = max b (largestOf bs)

@@ -1,7 +1,8 @@
 // UTF-8: one test of well-formedness, for formats and for the texts of a row.
 ghost use mathlib.Core.Path.{_≡_};
 ghost use Prim.Native.Nat.{_≤_, _<_, max};
-ghost use Rattle.utf8.specs.Utf8.{leadOf, wellFormed, largestOf};
+ghost use Rattle.utf8.specs.Utf8.{leadOf, wellFormed};
+ghost use Rattle.utf8.specs.Largest.{largestOf};
 
 // What follows a first byte: how many bytes, and the range of the next one.
 pub enum Lead {

@@ -11,7 +11,8 @@ use lib.ListN.{length, getD, take, drop, set, replicate, length-append, length-d
 use lib.Seq.{drop-cons, take-append-seam, drop-append-seam, drop-drop, take-suc, length-take-le, set-at, take-all, sets, sets-eq}
 use borrow.Author.Tests.{le-leb, lt-leb}
 use borrow.Rule.Slice.PartMut.{putMid, midOf}
-use Rattle.writing.specs.Laid.{laid, laidIfRoom}
+use Rattle.writing.specs.Laid.{laid}
+use Rattle.writing.specs.Writers.{laidIfRoom}
 
 pub laid-none : (d : List ℕ) → laid d [] ≡ d
 unfolding laid

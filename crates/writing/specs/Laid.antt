@@ -1,23 +1,8 @@
 -- What a lent slice holds after a text was written at its start.
 use Prim.Native.Nat.{ℕ}
-use mathlib.Core.Path.{_≡_}
 use mathlib.Core.List.{List, _++_}
-use lib.Dec.{leb}
 use lib.ListN.{length, drop}
-use Rattle.writing.specs.Choose.{choose}
 
 -- 01, "Bytes and ends past the last piece keep their content": the text t over the start of d, and the rest of d as it was.
 unfoldable pub laid : List ℕ → List ℕ → List ℕ
 laid d t = t ++ drop (length t) d
-
--- The text t laid over the start of d where there is room for it; else d as it was.
-unfoldable pub laidIfRoom : List ℕ → List ℕ → List ℕ
-laidIfRoom d t = choose (leb (length t) (length d)) (λ _. laid d t) (λ _. d)
-
--- What a function named write_ answers and leaves in d, of the text t, for which it has room.
-abbrev pub Wrote : List ℕ → List ℕ → ℕ → List ℕ → Type 0
-Wrote d t r out = (r ≡ length t) × (out ≡ laid d t)
-
--- What a function named put_ answers and leaves in d, of the text t.
-abbrev pub Put : List ℕ → List ℕ → ℕ → List ℕ → Type 0
-Put d t r out = (r ≡ length t) × (out ≡ laidIfRoom d t)

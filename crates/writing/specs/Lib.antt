@@ -1,3 +1,4 @@
 pub mod Choose
 pub mod Text
 pub mod Laid
+pub mod Writers

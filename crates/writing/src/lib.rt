@@ -3,7 +3,8 @@ ghost use mathlib.Core.Path.{_≡_};
 ghost use mathlib.Core.List.{[], _∷_};
 ghost use Prim.Native.Nat.{_≤_};
 ghost use lib.ListN.{length, replicate};
-ghost use Rattle.writing.specs.Laid.{laid, Wrote, Put};
+ghost use Rattle.writing.specs.Laid.{laid};
+ghost use Rattle.writing.specs.Writers.{Wrote, Put};
 
 // Copies the text. Answers its length.
 pub fn write_text(out: &mut [u8], text: &[u8]) -> usize

@@ -4,7 +4,7 @@ use mathlib.Core.Bool.{true}
 use mathlib.Core.List.{List}
 use Prim.Native.Nat.{ℕ, _^_, _<_}
 use lib.ListN.{length}
-use Rattle.writing.specs.Laid.{laidIfRoom, Put}
+use Rattle.writing.specs.Writers.{laidIfRoom, Put}
 use Rattle.layout.specs.Bare.{isBare}
 use Rattle.layout.proofs.Padded.{bare}
 use Rattle.elements.specs.Texts.{widthOf, fill, paddedNumber}
@@ -41,8 +41,8 @@ returns c =
     let asked = tested .before in
     let a = asked .before .before .before .args in
     let b =
-        ap (λ (w : ℕ). isBare w (a .n .mark) (a .n .prefix)) (sym (asked .before .width-of .ensures)) ∙ sym (asked .is-bare .ensures)
-        ∙ tested .if1 .taken in
+    ap (λ (w : ℕ). isBare w (a .n .mark) (a .n .prefix)) (sym (asked .before .width-of .ensures)) ∙ sym (asked .is-bare .ensures)
+    ∙ tested .if1 .taken in
     let w = put .put-bare-numeral .ensures in
     (alone (a .out .now) (a .e) (a .n) _ _ b (w .0), w .1)
 

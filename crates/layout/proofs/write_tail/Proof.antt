@@ -4,7 +4,7 @@ use mathlib.Core.Path.{_≡_, ap}
 use mathlib.Core.List.{List}
 use lib.ListN.{length, length-take, length-drop}
 use native.Mathlib.Omega.{arith}
-use Rattle.writing.specs.Laid.{Wrote}
+use Rattle.writing.specs.Writers.{Wrote}
 use Rattle.layout.specs.Frame.{byteText, closingByte, spaces, tailText}
 use Rattle.layout.proofs.Lengths.{tail-length}
 use Rattle.layout.proofs.Chained.{wrote-fill, wrote-two}

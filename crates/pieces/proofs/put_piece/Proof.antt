@@ -2,7 +2,7 @@
 use mathlib.Core.Path.{subst, ap, _∙_}
 use native.Mathlib.Omega.{arith}
 use lib.ListN.{length}
-use Rattle.writing.specs.Laid.{laidIfRoom}
+use Rattle.writing.specs.Writers.{laidIfRoom}
 use Rattle.pieces.specs.PieceTexts.{unpadded, shownPiece}
 use Rattle.pieces.specs.Ready.{Ready}
 use Rattle.pieces.proofs.Pieces.{put-sized, argument-in, element-shown}

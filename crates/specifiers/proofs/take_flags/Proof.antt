@@ -1,6 +1,6 @@
 -- `specifiers::take_flags` meets its contract. The loop's invariant: the flags from i on, after those read, are the flags of the whole. Assumes nothing.
 use Prim.Native.Nat.{_+_, _-_}
-use mathlib.Core.Path.{_≡_, ap}
+use mathlib.Core.Path.{_≡_, ap, _∙_}
 use lib.ListN.{length, drop}
 use native.Mathlib.Omega.{arith}
 use borrow.Author.Needs.{needs}
@@ -37,13 +37,12 @@ loop-again : tie.Need-loop-again Inv-loop μ-loop
 loop-again c = simp (c .before .step .given .1) at (turn (c .before .before .before))
 
 returns : tie.Need-returns Inv-loop μ-loop
-returns c = simp (c .before .step2 .given .1) at (turn (c .before .before .before))
+returns c =
+    let told = c .before .enum-told .given .1 in
+    (simp told at (c .flags-stop .ensures)) ∙ (simp told at (turn (c .before .before .before)))
 
 returns-2 : tie.Need-returns-2 Inv-loop μ-loop
-returns-2 c = simp (c .enum-told .given .1) at (turn (c .before .before))
-
-returns-3 : tie.Need-returns-3 Inv-loop μ-loop
-returns-3 c =
+returns-2 c =
     let l = c .before .loop in
     let from = c .before .before .before .before .args in
     flags-end (from .fmt .now) (from .at) (l .i) (l .flags) (l .inv) (omega arith)
@@ -60,10 +59,9 @@ take-flags-spec =
     (λ c κs. search needs)
     (λ c. search needs)
     (λ c. search needs)
-    (λ c. search needs)
-    loop-again
-    (λ c. search needs)
+    (λ c κs. search needs)
     returns
     (λ c. search needs)
-    returns-2
-    returns-3)
+    (λ c. search needs)
+    loop-again
+    returns-2)

@@ -3,7 +3,7 @@ use Prim.Native.Nat.{ℕ, _+_, _-_, _≤_, _<_, max}
 use mathlib.Core.Path.{_≡_, sym, ap, _∙_}
 use lib.ListN.{length, drop}
 use native.Mathlib.Omega.{arith}
-use Rattle.utf8.specs.Utf8.{largestOf}
+use Rattle.utf8.specs.Largest.{largestOf}
 use Rattle.utf8.proofs.Laws.{largest-more, largest-end}
 use borrow.Author.Needs.{needs}
 use Rattle.utf8.proofs.largest.Statement.{statement}
