@@ -4,7 +4,8 @@ use lib.Ieee.{mul, ofBits, toBits}
 use Rattle.numerals.specs.Digits.{digitsIn, placesWithin, places, digits, numberFrom, numberOf, letterOf, lettersOf, numeral}
 use Rattle.numerals.specs.Grouping.{grouped}
 use Rattle.numerals.specs.Integers.{intOf}
-use Rattle.numerals.specs.Params.{leadingDigits, numberTaken, numberAt as decimalAt, paramAt}
+use Rattle.numerals.specs.Params.{leadingDigits, numberTaken, numberAt, paramAt}
+use Rattle.numerals.specs.LittleEndian.{littleEndian, wordAt}
 use Rattle.layout.specs.Frame.{spaces, headText, tailText, framed, spare, frameOf, padded}
 use Rattle.binary64.specs.Fields.{negative, exponentField, fractionField, categoryOf, scaledBits}
 use Rattle.binary64.specs.HexFloat.{shortest, rounded, hexFloatOf, exponentText, hexFloatText}
@@ -18,7 +19,6 @@ use Rattle.parsing.specs.Pieces.{indexAt, argumentAt, elementAt, pieceAt}
 use Rattle.parsing.specs.Listed.{placedFrom, endFrom, placed, ended}
 use Rattle.strings.specs.Cut.{backTo, cutLength, cutTo, cased}
 use Rattle.strings.specs.Scalars.{utf8Of}
-use Rattle.rows.specs.Numbers.{littleEndian, numberAt}
 use Rattle.rows.specs.Row.{namedText, entryAt, entriesFrom, isRow}
 use Rattle.elements.specs.Texts.{elementText}
 use Rattle.pieces.specs.PieceTexts.{shownPiece}
@@ -27,10 +27,10 @@ use Rattle.cases.specs.Cases.{cases, allHold}
 
 pub theorem-cases : T (allHold cases)
 unfolding mul ofBits toBits digitsIn placesWithin places digits numberFrom numberOf letterOf lettersOf numeral grouped intOf
-    leadingDigits numberTaken decimalAt paramAt spaces headText tailText framed spare frameOf padded
+    leadingDigits numberTaken numberAt paramAt spaces headText tailText framed spare frameOf padded
     negative exponentField fractionField categoryOf scaledBits shortest rounded hexFloatOf exponentText hexFloatText nearestTo keptDigits
     leadOf wellFormedFrom wellFormed conversionOf kindOf fitsKind printsAs
     flagOf flagsFrom precisionAt letterAt partsAt specifierAt indexAt argumentAt elementAt pieceAt placedFrom endFrom placed ended
-    backTo cutLength cutTo cased utf8Of littleEndian numberAt namedText entryAt entriesFrom isRow
+    backTo cutLength cutTo cased utf8Of littleEndian wordAt namedText entryAt entriesFrom isRow
     elementText shownPiece textsOf texts joined printedText firstStop measuredEnd measured
 theorem-cases = tt

@@ -1,11 +1,12 @@
 -- 01, "Cases": "These rows are a table of the definitions, under a lone theorem".
-use Prim.Native.Nat.{ℕ, zero, suc, _-_, _/_, _%_, _^_}
+use Prim.Native.Nat.{ℕ, _-_, _^_}
 use Prim.Native.Char.{code}
 use Prim.Native.String.{String, [] as empty, _∷_ as _then_}
 use mathlib.Core.Bool.{Bool, true, false, _&&_}
 use mathlib.Core.List.{List, [], _∷_, _++_}
 use lib.Dec.{eqb}
 use lib.ListN.{length}
+use Rattle.numerals.specs.LittleEndian.{bytesOf}
 use Rattle.reading.specs.Examples.{same}
 use Rattle.strings.specs.Scalars.{utf8Of}
 use Rattle.printing.specs.Printing.{printedText, measured}
@@ -17,14 +18,9 @@ abbrev pub utf8 : String → List ℕ
 utf8 empty = []
 utf8 (c then s) = utf8Of (code c) ++ utf8 s
 
--- k bytes of a number, the low ones first
-abbrev pub bytes : ℕ → ℕ → List ℕ
-bytes zero n = []
-bytes (suc k) n = n % 256 ∷ bytes k (n / 256)
-
 -- A row of one argument: its kind byte, its value and the text area.
 abbrev pub rowWith : ℕ → ℕ → List ℕ → List ℕ
-rowWith kind value text = bytes 2 1 ++ (bytes 4 (length text) ++ (kind ∷ (bytes 8 value ++ text)))
+rowWith kind value text = bytesOf 2 1 ++ (bytesOf 4 (length text) ++ (kind ∷ (bytesOf 8 value ++ text)))
 
 -- A row of the table. The value is the 8 bytes that stand for it: of a text, its length times 2 ^ 32.
 pub record Case : Type 0 where

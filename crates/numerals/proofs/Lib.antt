@@ -3,3 +3,4 @@ pub mod Bases
 pub mod Integers
 pub mod Grouping
 pub mod Params
+pub mod LittleEndian

@@ -3,3 +3,4 @@ pub mod Grouping
 pub mod Integers
 pub mod Params
 pub mod Bases
+pub mod LittleEndian

@@ -23,7 +23,8 @@ use Rattle.panel.specs.declared.PrintAnswer.{PrintAnswer}
 use Rattle.panel.proofs.Ends.{read-again}
 
 -- bytes over the start of e, read as ends, are those ends and what is read behind them
-read-over : (E e : List ℕ) → ((i : ℕ) → i < length E → getD E i 0 < 2 ^ 32) → endsRead (laid e (allBytes E)) ≡ laid (E ++ endsRead (drop (length (allBytes E)) e)) E
+read-over : (E e : List ℕ) → ((i : ℕ) → i < length E → getD E i 0 < 2 ^ 32)
+    → endsRead (laid e (allBytes E)) ≡ laid (E ++ endsRead (drop (length (allBytes E)) e)) E
 unfolding laid
 read-over E e h =
     let X = endsRead (drop (length (allBytes E)) e) in
@@ -49,7 +50,9 @@ module _ (s row : List ℕ) where
     unfolding laid
     holds long many = λ h j.
         let T = printedText s row in
-        (ap (take n) (filled-of (omega (arith, long)) (omega (arith, many)) .0) ∙ take-at T (drop (length T) D) n (sym (f .accepts .total)), ends-of (omega (arith, long)) (omega (arith, many)))
+        let n-fits : n ≤ length D = omega (arith, long) in
+        let k-fits : k ≤ length E = omega (arith, many) in
+        (ap (take n) (filled-of n-fits k-fits .0) ∙ take-at T (drop (length T) D) n (sym (f .accepts .total)), ends-of n-fits k-fits)
 
   -- demand 3 of the bytes, read as ends
   small : (room m n k : ℕ) → Fitted s row room m n k → (i : ℕ) → i < length (endsFrom 0 (texts s row)) → getD (endsFrom 0 (texts s row)) i 0 < 2 ^ 32
@@ -64,7 +67,8 @@ module _ (s row : List ℕ) where
   demanded room m (Accepted n k) q bytes out d e h =
       let f = fitted s row room m n k q in
       let E = endsFrom 0 (texts s row) in
-      demand s row n k (f .accepts) d (E ++ endsRead (drop (length (allBytes E)) e)) out (endsRead (laid e (allBytes E))) h (read-over E e (small room m n k f)) bytes
+      let past = endsRead (drop (length (allBytes E)) e) in
+      demand s row n k (f .accepts) d (E ++ past) out (endsRead (laid e (allBytes E))) h (read-over E e (small room m n k f)) bytes
   demanded room m (Refused number place) q bytes out d e h = tt
 
   -- what the entry says of a call that prints
@@ -77,4 +81,5 @@ module _ (s row : List ℕ) where
       let x = w .answer in
       let y = w .bytes ∙ ap (λ (o : Outcome). written o d (printedText s row)) x in
       let z = w .slots ∙ ap (λ (o : Outcome). written o e (allBytes (endsFrom 0 (texts s row)))) x in
-      (q ∙ ap printAnswer x, (y, (z, subst (λ (l : List ℕ). Demanded s row (printed s row (length d) (length e / 4)) out (endsRead l)) (sym z) (demanded (length d) (length e / 4) _ refl bytes out d e y))))
+      let v = demanded (length d) (length e / 4) _ refl bytes out d e y in
+      (q ∙ ap printAnswer x, (y, (z, subst (λ (l : List ℕ). Demanded s row (printed s row (length d) (length e / 4)) out (endsRead l)) (sym z) v)))

@@ -1,11 +1,12 @@
 -- The C entries. 01: "The panel's host program in C calls checking, measuring and printing on numbers and byte slices; ends pass there as 4
 -- little-endian bytes each, and up to 3 bytes left over are never written."
-use Prim.Native.Nat.{ℕ, _+_, _*_, _/_, _%_, _≤_}
+use Prim.Native.Nat.{ℕ, _/_, _≤_}
 use mathlib.Core.Path.{_≡_}
 use mathlib.Core.List.{List, [], _∷_, _++_}
+use lib.ListN.{length, take}
+use Rattle.numerals.specs.LittleEndian.{littleEndian, bytesOf}
 use Rattle.parsing.specs.declared.Checked.{Checked}
 use Rattle.parsing.specs.declared.Checked.the-variants as C
-use lib.ListN.{length, take}
 use Rattle.printing.specs.Printing.{texts, printedText, endsFrom, printed, written}
 use Rattle.printing.specs.declared.Outcome.{Outcome}
 use Rattle.printing.specs.declared.Outcome.the-variants.{Accepted, Refused}
@@ -22,12 +23,9 @@ printAnswer (Accepted length pieces) = record { number = 0; place = 0; length = 
 printAnswer (Refused number place) = record { number = number; place = place; length = 0; pieces = 0 }
 
 -- "4 little-endian bytes each"
-abbrev pub endBytes : ℕ → List ℕ
-endBytes n = n % 256 ∷ n / 256 % 256 ∷ n / 65536 % 256 ∷ n / 16777216 % 256 ∷ []
-
 unfoldable pub allBytes : List ℕ → List ℕ
 allBytes [] = []
-allBytes (n ∷ ns) = endBytes n ++ allBytes ns
+allBytes (n ∷ ns) = bytesOf 4 n ++ allBytes ns
 
 -- The ends that bytes hold, read so; "up to 3 bytes left over" hold none.
 unfoldable pub endsRead : List ℕ → List ℕ
@@ -35,7 +33,7 @@ endsRead [] = []
 endsRead (a ∷ []) = []
 endsRead (a ∷ b ∷ []) = []
 endsRead (a ∷ b ∷ c ∷ []) = []
-endsRead (a ∷ b ∷ c ∷ d ∷ rest) = (a + 256 * b + 65536 * c + 16777216 * d) ∷ endsRead rest
+endsRead (a ∷ b ∷ c ∷ d ∷ rest) = littleEndian (a ∷ b ∷ c ∷ d ∷ []) ∷ endsRead rest
 
 -- That a text and slots, where long enough for n bytes and k ends, begin with what is printed.
 abbrev pub Holds : List ℕ → List ℕ → ℕ → ℕ → List ℕ → List ℕ → Type 0

@@ -10,7 +10,7 @@ ghost use Rattle.printing.specs.Printing.{texts, printedText, endsFrom, measure
 ghost use Rattle.printing.specs.Demand.{Demanded};
 ghost use Rattle.printing.specs.declared.Outcome.the-variants.{Accepted};
 ghost use Rattle.writing.specs.Laid.{laid};
-ghost use Rattle.panel.specs.Entries.{checkAnswer, printAnswer, endBytes, allBytes, endsRead, Holds, Prints};
+ghost use Rattle.panel.specs.Entries.{checkAnswer, printAnswer, allBytes, endsRead, Holds, Prints};
 
 // number is 0 where the format is accepted; else it is the refusal's, with its place.
 #[repr(C)]
@@ -84,17 +84,6 @@ pub extern "C" fn panel_measure<'a>(fmt: &'a [u8], row: &'a [u8]) -> PrintAnswer
     print_answer(printing::measure(fmt, row))
 }
 
-// One end as four bytes, the low one first.
-fn write_end(ends: &mut [u8], end: u32)
-    requires { ⌜ 4 ≤ length (now ends) ⌝ }
-    ensures { λ r. ⌜ now (ends .exit) ≡ laid (now (ends .entry)) (endBytes end) ⌝ }
-{
-    ends[0] = (end % 256) as u8;
-    ends[1] = (end / 256 % 256) as u8;
-    ends[2] = (end / 65536 % 256) as u8;
-    ends[3] = (end / 16777216 % 256) as u8;
-}
-
 // Ends, four bytes each.
 fn store_ends(ends: &mut [u8], slots: &[u32])
     requires { ⌜ 4 * length (now slots) ≤ length (now ends) ⌝ }
@@ -102,7 +91,7 @@ fn store_ends(ends: &mut [u8], slots: &[u32])
 {
     let mut k: usize = 0;
     while k < slots.len() {
-        write_end(&mut ends[4 * k..], slots[k]);
+        numerals::little_endian::write_four(&mut ends[4 * k..], slots[k]);
         k = k + 1;
     }
 }

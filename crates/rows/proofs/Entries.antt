@@ -7,11 +7,11 @@ use native.Mathlib.Omega.{arith}
 use lib.ListN.{length, getD, take, drop}
 use borrow.Rule.Slice.PartAt.{part-to-end}
 use Rattle.conversions.specs.Kinds.{kindOf}
-use Rattle.rows.specs.Numbers.{numberAt}
+use Rattle.numerals.specs.LittleEndian.{wordAt}
 use Rattle.rows.specs.Row.{countOf, isNull, entryOf, entryAt, entriesFrom}
 
 -- The entry with the index i + 1, by the places that the code reads.
-pub entry-read : (row : List ℕ) (n i v : ℕ) → n ≡ countOf row → v ≡ numberAt 8 row (6 + n + 8 * i)
+pub entry-read : (row : List ℕ) (n i v : ℕ) → n ≡ countOf row → v ≡ wordAt 8 row (6 + n + 8 * i)
     → entryOf (kindOf (getD row (6 + i) 0 % 128)) (isNull (getD row (6 + i) 0)) (take (length row - (6 + 9 * n)) (drop (6 + 9 * n) row)) v
     ≡ entryAt row (i + 1)
 unfolding entryAt

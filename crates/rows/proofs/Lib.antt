@@ -1,4 +1,3 @@
-mod Numbers
 pub mod Widths
 mod Entries
 pub mod Rows

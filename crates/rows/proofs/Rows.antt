@@ -10,7 +10,7 @@ use lib.ListN.{length, getD, take, drop, length-drop}
 use lib.Seq.{getD-take, getD-drop, length-take-le}
 use borrow.Author.Tests.{leb-true, eqb-true}
 use borrow.Rule.Slice.PartAt.{part-to-end}
-use Rattle.rows.specs.Numbers.{numberAt, littleEndian}
+use Rattle.numerals.specs.LittleEndian.{littleEndian, wordAt}
 use Rattle.rows.specs.Row.{mostValues, mostText, countOf, textSize, kindsOf, textOf, kindByteOf, valueOf, entryAt, entriesFrom, isRow}
 use Rattle.rows.specs.Arguments.{rowOf}
 use Rattle.rows.specs.declared.RowRead.{RowRead}
@@ -58,8 +58,8 @@ below zero l h = omega arith
 below (suc k) [] h = one-le-pow (suc k) 256 (omega arith)
 below (suc k) (b ∷ l) h = omega (arith, h 0, below k l (λ i. h (suc i)), pow-suc 256 k)
 
-pub number-below : (k : ℕ) (s : List ℕ) (at : ℕ) → AllBytes s → numberAt k s at < 256 ^ k
-unfolding numberAt
+pub number-below : (k : ℕ) (s : List ℕ) (at : ℕ) → AllBytes s → wordAt k s at < 256 ^ k
+unfolding wordAt
 number-below k s at h = below k (drop at s) (λ i. simp getD-drop (h (at + i)))
 
 pub value-below : (row : List ℕ) (a : ℕ) → AllBytes row → valueOf row a < 2 ^ 64

@@ -6,13 +6,13 @@ use mathlib.Core.List.{List, [], _∷_}
 use lib.Dec.{leb, ltb, eqb}
 use lib.ListN.{length, getD, take, drop}
 use Rattle.writing.specs.Choose.{choose}
+use Rattle.numerals.specs.LittleEndian.{wordAt}
 use Rattle.utf8.specs.Utf8.{wellFormed}
 use Rattle.conversions.specs.Kinds.{kindOf}
 use Rattle.conversions.specs.declared.Kind.{Kind}
 use Rattle.conversions.specs.declared.Kind.the-variants as K
 use Rattle.conversions.specs.declared.KindByte.{KindByte}
 use Rattle.conversions.specs.declared.KindByte.the-variants.{Known, Unknown}
-use Rattle.rows.specs.Numbers.{numberAt}
 
 -- The largest n and t.
 abbrev pub mostValues : ℕ
@@ -23,10 +23,10 @@ mostText = 32768
 
 -- n and t
 abbrev pub countOf : List ℕ → ℕ
-countOf row = numberAt 2 row 0
+countOf row = wordAt 2 row 0
 
 abbrev pub textSize : List ℕ → ℕ
-textSize row = numberAt 4 row 2
+textSize row = wordAt 4 row 2
 
 -- The kind bytes, the text, and, of the argument with the index a (from 1), its kind byte and its value.
 abbrev pub kindsOf : List ℕ → List ℕ
@@ -39,7 +39,7 @@ abbrev pub kindByteOf : List ℕ → ℕ → ℕ
 kindByteOf row a = getD row (5 + a) 0
 
 abbrev pub valueOf : List ℕ → ℕ → ℕ
-valueOf row a = numberAt 8 row (6 + countOf row + 8 * (a - 1))
+valueOf row a = wordAt 8 row (6 + countOf row + 8 * (a - 1))
 
 -- "128 added .. means null"
 abbrev pub isNull : ℕ → Bool

@@ -6,46 +6,15 @@ ghost use mathlib.Core.List.{[]};
 ghost use Prim.Native.Nat.{_+_, _*_, _%_, _^_, _≤_, _<_};
 ghost use Rattle.conversions.specs.Kinds.{kindOf};
 ghost use lib.ListN.{length};
-ghost use Rattle.rows.specs.Numbers.{numberAt};
 ghost use Rattle.rows.specs.Row.{countOf, kindByteOf, valueOf, isText, namedText, isNull, holds, canBeNull, entryOf, entriesFrom};
 ghost use Rattle.rows.specs.Arguments.{HasWidth, Argument, rowOf};
-
-fn wide(b: u8) -> u64
-    ensures { λ r. ⌜ (r ≡ b) × (r < 256) ⌝ }
-{
-    b as u64
-}
-
-// Two bytes as a number.
-fn number2(s: &[u8], at: usize) -> u64
-    requires { ⌜ at + 2 ≤ length (now s) ⌝ }
-    ensures { λ r. ⌜ (r ≡ numberAt 2 (now (s .entry)) at) × (r < 65536) ⌝ }
-{
-    wide(s[at]) + 256 * wide(s[at + 1])
-}
-
-// Four bytes as a number.
-fn number4(s: &[u8], at: usize) -> u64
-    requires { ⌜ at + 4 ≤ length (now s) ⌝ }
-    ensures { λ r. ⌜ (r ≡ numberAt 4 (now (s .entry)) at) × (r < 4294967296) ⌝ }
-{
-    number2(s, at) + 65536 * number2(s, at + 2)
-}
-
-// Eight bytes as a number.
-fn number8(s: &[u8], at: usize) -> u64
-    requires { ⌜ at + 8 ≤ length (now s) ⌝ }
-    ensures { λ r. ⌜ r ≡ numberAt 8 (now (s .entry)) at ⌝ }
-{
-    number4(s, at) + 4294967296 * number4(s, at + 4)
-}
 
 // How many arguments a row says it has.
 fn count_of(row: &[u8]) -> usize
     requires { ⌜ 2 ≤ length (now row) ⌝ }
     ensures { λ r. ⌜ r ≡ countOf (now (row .entry)) ⌝ }
 {
-    number2(row, 0) as usize
+    numerals::little_endian::two(row, 0) as usize
 }
 
 // Whether a value is a signed integer of this width, sign-extended to 64 bits.
@@ -120,7 +89,7 @@ fn are_entries(row: &[u8], n: usize) -> bool
     let text = 6 + 9 * n;
     let mut i = 0;
     while i < n {
-        let value = number8(row, 6 + n + 8 * i);
+        let value = numerals::little_endian::eight(row, 6 + n + 8 * i);
         if !is_entry(row[6 + i], &row[text..], value) {
             return false;
         }
@@ -141,8 +110,8 @@ pub fn read_row(row: &[u8]) -> RowRead
     if row.len() < 6 {
         return RowRead::Broken;
     }
-    let n = number2(row, 0);
-    let t = number4(row, 2);
+    let n = numerals::little_endian::two(row, 0);
+    let t = numerals::little_endian::four(row, 2);
     if refusals::MOST_VALUES < n {
         return RowRead::Broken;
     }
@@ -173,7 +142,7 @@ pub fn value_of(row: &[u8], argument: usize) -> u64
     ensures { λ r. ⌜ r ≡ valueOf (now (row .entry)) argument ⌝ }
 {
     let count = count_of(row);
-    number8(row, 6 + count + 8 * (argument - 1))
+    numerals::little_endian::eight(row, 6 + count + 8 * (argument - 1))
 }
 
 // Whether a kind byte is that of a text.

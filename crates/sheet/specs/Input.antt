@@ -1,10 +1,11 @@
 -- The input of `sheet` and its answer. 01, "Cases": "reads up to 65,536 bytes: format length in 2 bytes, little-endian, the format, the row".
-use Prim.Native.Nat.{ℕ, _+_, _*_, _≤_}
+use Prim.Native.Nat.{ℕ, _+_, _≤_}
 use mathlib.Core.Path.{_≡_}
 use mathlib.Core.List.{List}
 use lib.Dec.{leb}
-use lib.ListN.{length, getD, take, drop}
+use lib.ListN.{length, take, drop}
 use Rattle.writing.specs.Choose.{choose}
+use Rattle.numerals.specs.LittleEndian.{wordAt}
 use Rattle.printing.specs.Printing.{texts, printedText, endsFrom, printed, written}
 use Rattle.printing.specs.declared.Outcome.{Outcome}
 use Rattle.printing.specs.declared.Outcome.the-variants.{Accepted, Refused}
@@ -15,7 +16,7 @@ use Rattle.sheet.specs.declared.Answer.the-variants.{Given, NoInput}
 
 -- "format length in 2 bytes, little-endian"
 abbrev pub lengthOf : List ℕ → ℕ
-lengthOf s = getD s 0 0 + getD s 1 0 * 256
+lengthOf s = wordAt 2 s 0
 
 -- "the format, the row": the row is all the rest.
 abbrev pub formatOf : List ℕ → List ℕ

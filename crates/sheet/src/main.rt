@@ -3,9 +3,9 @@ use libc::STDIN_FILENO;
 use libc::STDOUT_FILENO;
 use printing::Outcome;
 ghost use mathlib.Core.Path.{_≡_};
-ghost use Prim.Native.Nat.{_≤_, _<_};
+ghost use Prim.Native.Nat.{_≤_};
 ghost use lib.ListN.{length};
-ghost use Rattle.sheet.specs.Input.{lengthOf, partsOf, LieIn, answered, outAfter, endsAfter, Fits, AnswerFits};
+ghost use Rattle.sheet.specs.Input.{partsOf, LieIn, answered, outAfter, endsAfter, Fits, AnswerFits};
 
 // Where the parts of the input lie: the format from byte 2 up to the row, the row from its place to the end.
 pub enum Parts {
@@ -19,20 +19,6 @@ pub enum Answer {
     NoInput,
 }
 
-fn wide(x: u8) -> usize
-    ensures { λ r. ⌜ (r ≡ x) × (r < 256) ⌝ }
-{
-    x as usize
-}
-
-// The format's length, from the first two bytes.
-fn length_of(input: &[u8]) -> usize
-    requires { ⌜ 2 ≤ length (now input) ⌝ }
-    ensures { λ r. ⌜ (r ≡ lengthOf (now (input .entry))) × (r < 65536) ⌝ }
-{
-    wide(input[0]) + wide(input[1]) * 256
-}
-
 // The parts of the input.
 fn parts_of(input: &[u8]) -> Parts
     ensures { λ r. ⌜ r ≡ partsOf (now (input .entry)) ⌝ }
@@ -41,7 +27,7 @@ fn parts_of(input: &[u8]) -> Parts
     if input.len() < 2 {
         return Parts::Missing;
     }
-    let n = length_of(input);
+    let n = numerals::little_endian::two(input, 0) as usize;
     if input.len() - 2 < n {
         return Parts::Missing;
     }

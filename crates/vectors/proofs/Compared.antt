@@ -6,14 +6,16 @@ use native.Mathlib.Omega.{arith}
 use native.Mathlib.Numerals.{add-one}
 use lib.ListN.{length, getD, take}
 use lib.Seq.{take-suc, take-all}
-use Rattle.vectors.specs.Prints.{fourAt, fours}
+use Rattle.numerals.specs.LittleEndian.{wordAt}
+use Rattle.vectors.specs.Prints.{fours}
 
 -- one byte more
 pub same-more : (a b : List ℕ) (i : ℕ) → i < length a → i < length b → take i a ≡ take i b → getD a i 0 ≡ getD b i 0 → take (i + 1) a ≡ take (i + 1) b
 same-more a b i h k e q = simp (add-one, take-suc a i 0 h, take-suc b i 0 k, e, q)
 
 -- one end more
-pub fours-more : (ends s : List ℕ) (at i : ℕ) → i < length ends → take i ends ≡ fours s at i → getD ends i 0 ≡ fourAt s (at + 4 * i) → take (i + 1) ends ≡ fours s at (i + 1)
+pub fours-more : (ends s : List ℕ) (at i : ℕ) → i < length ends → take i ends ≡ fours s at i → getD ends i 0 ≡ wordAt 4 s (at + 4 * i)
+    → take (i + 1) ends ≡ fours s at (i + 1)
 unfolding fours
 fours-more ends s at i h e q = simp (add-one, take-suc ends i 0 h, e, q)
 

@@ -4,10 +4,11 @@ use mathlib.Core.Path.{_≡_}
 use mathlib.Core.Bool.{Bool, true, false}
 use mathlib.Core.List.{List, [], _∷_, _++_}
 use lib.ListN.{length, getD, take}
+use Rattle.numerals.specs.LittleEndian.{wordAt}
 use Rattle.printing.specs.Printing.{texts, printedText, endsFrom, printed}
 use Rattle.printing.specs.declared.Outcome.{Outcome}
 use Rattle.printing.specs.declared.Outcome.the-variants.{Accepted, Refused}
-use Rattle.vectors.specs.Records.{twoAt, between}
+use Rattle.vectors.specs.Records.{between}
 use Rattle.vectors.specs.declared.prints.PrintRecord.{PrintRecord}
 use Rattle.vectors.specs.declared.prints.PrintRecord.the-variants as R
 use Rattle.vectors.specs.declared.prints.Claim.{Claim}
@@ -15,28 +16,25 @@ use Rattle.vectors.specs.declared.prints.Claim.the-variants.{Printed, An
 use Rattle.vectors.specs.declared.prints.ClaimRead.{ClaimRead}
 use Rattle.vectors.specs.declared.prints.ClaimRead.the-variants as C
 
--- A number of four bytes, the low one first.
-abbrev pub fourAt : List ℕ → ℕ → ℕ
-fourAt s at = getD s at 0 + getD s (at + 1) 0 * 256 + getD s (at + 2) 0 * 65536 + getD s (at + 3) 0 * 16777216
-
 -- So many numbers of four bytes, one behind the other from a place on.
 unfoldable pub fours : List ℕ → ℕ → ℕ → List ℕ
 fours s at zero = []
-fours s at (suc k) = fours s at k ++ (fourAt s (at + 4 * k) ∷ [])
+fours s at (suc k) = fours s at k ++ (wordAt 4 s (at + 4 * k) ∷ [])
 
 -- That the parts of a record lie in the list, one behind the other: a length in two bytes and the format, a length in two bytes and the row.
 abbrev pub PrintRecordIs : List ℕ → ℕ → PrintRecord → Type 0
 PrintRecordIs s at (R.Whole format row answer) =
-    (format ≡ at + 2) × (row ≡ format + twoAt s at + 2) × (answer ≡ row + twoAt s (row - 2)) × (answer < length s)
+    (format ≡ at + 2) × (row ≡ format + wordAt 2 s at + 2) × (answer ≡ row + wordAt 2 s (row - 2)) × (answer < length s)
 PrintRecordIs s at R.Broken = Unit {0}
 
 -- That a claim stands at a place, up to `next`: 0, a length and the text, a count and the ends; or 1; or 2, number and place.
 abbrev pub ClaimAt : List ℕ → ℕ → Claim → ℕ → Type 0
 ClaimAt s at (Printed text ends pieces) next =
-    (getD s at 0 ≡ 0) × (text ≡ at + 3) × (ends ≡ text + twoAt s (at + 1) + 2) × (pieces ≡ twoAt s (ends - 2)) × (next ≡ ends + 4 * pieces) × (next ≤ length s)
+    (getD s at 0 ≡ 0) × (text ≡ at + 3) × (ends ≡ text + wordAt 2 s (at + 1) + 2) × (pieces ≡ wordAt 2 s (ends - 2))
+    × (next ≡ ends + 4 * pieces) × (next ≤ length s)
 ClaimAt s at AnyRefusal next = (getD s at 0 ≡ 1) × (next ≡ at + 1) × (next ≤ length s)
 ClaimAt s at (Refusal number place) next =
-    (getD s at 0 ≡ 2) × (number ≡ getD s (at + 1) 0) × (place ≡ twoAt s (at + 2)) × (next ≡ at + 4) × (next ≤ length s)
+    (getD s at 0 ≡ 2) × (number ≡ getD s (at + 1) 0) × (place ≡ wordAt 2 s (at + 2)) × (next ≡ at + 4) × (next ≤ length s)
 
 abbrev pub ClaimIs : List ℕ → ℕ → ClaimRead → Type 0
 ClaimIs s at (C.Read claim next) = ClaimAt s at claim next

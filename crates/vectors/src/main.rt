@@ -9,7 +9,7 @@ ghost use Prim.Native.Nat.{_+_, _-_, _≤_, _<_};
 ghost use lib.ListN.{length};
 ghost use Rattle.parsing.specs.Check.{checked};
 ghost use Rattle.parsing.specs.declared.Checked.the-variants.{Accepted, Refused};
-ghost use Rattle.vectors.specs.Records.{twoAt, between, RecordIs, ExpectedIs, Same, Onward};
+ghost use Rattle.vectors.specs.Records.{between, RecordIs, ExpectedIs, Same, Onward};
 
 // Where the parts of a record lie: the format up to the byte before the kinds, the kinds up to the answer.
 pub enum CheckRecord {
@@ -45,14 +45,6 @@ fn wide(x: u8) -> usize
     x as usize
 }
 
-// A number of two bytes.
-fn two_at(list: &[u8], at: usize) -> usize
-    requires { ⌜ at + 1 < length (now list) ⌝ }
-    ensures { λ r. ⌜ (r ≡ twoAt (now (list .entry)) at) × (r < 65536) ⌝ }
-{
-    wide(list[at]) + wide(list[at + 1]) * 256
-}
-
 // The parts of the record at a place.
 fn record_at(list: &[u8], at: usize) -> CheckRecord
     requires { ⌜ at < length (now list) ⌝ }
@@ -62,7 +54,7 @@ fn record_at(list: &[u8], at: usize) -> CheckRecord
     if left < 4 {
         return CheckRecord::Broken;
     }
-    let n = two_at(list, at);
+    let n = numerals::little_endian::two(list, at) as usize;
     if left - 3 <= n {
         return CheckRecord::Broken;
     }
@@ -91,8 +83,8 @@ fn expected_at(list: &[u8], at: usize) -> Expected
         }
         return Expected::Answer {
             checked: Checked::Accepted {
-                pieces: two_at(list, at + 1),
-                largest: two_at(list, at + 3),
+                pieces: numerals::little_endian::two(list, at + 1) as usize,
+                largest: numerals::little_endian::two(list, at + 3) as usize,
             },
             next: at + 5,
         };
@@ -106,7 +98,7 @@ fn expected_at(list: &[u8], at: usize) -> Expected
     Expected::Answer {
         checked: Checked::Refused {
             number: list[at + 1],
-            place: two_at(list, at + 2),
+            place: numerals::little_endian::two(list, at + 2) as usize,
         },
         next: at + 4,
     }

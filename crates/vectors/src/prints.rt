@@ -7,7 +7,7 @@ ghost use Prim.Native.Nat.{_+_, _*_, _-_, _≤_, _<_};
 ghost use lib.ListN.{length, getD};
 ghost use Rattle.printing.specs.declared.Outcome.the-variants.{Refused};
 ghost use Rattle.vectors.specs.Records.{between, Onward};
-ghost use Rattle.vectors.specs.Prints.{fourAt, fours, PrintRecordIs, ClaimAt, ClaimIs, SameList, IsRefusal, IsOutcome, InRoom, IsLeft, Met};
+ghost use Rattle.vectors.specs.Prints.{fours, PrintRecordIs, ClaimAt, ClaimIs, SameList, IsRefusal, IsOutcome, InRoom, IsLeft, Met};
 
 // Where the parts of a record lie: the format up to the two bytes before the row, the row up to the answer.
 pub enum PrintRecord {
@@ -39,21 +39,10 @@ pub enum ClaimRead {
     Broken,
 }
 
-fn wide_end(x: u32) -> usize
+fn wide_end(x: u32) -> u64
     ensures { λ r. ⌜ r ≡ x ⌝ }
 {
-    x as usize
-}
-
-// A number of four bytes.
-fn four_at(list: &[u8], at: usize) -> usize
-    requires { ⌜ at + 3 < length (now list) ⌝ }
-    ensures { λ r. ⌜ r ≡ fourAt (now (list .entry)) at ⌝ }
-{
-    crate::wide(list[at])
-        + crate::wide(list[at + 1]) * 256
-        + crate::wide(list[at + 2]) * 65536
-        + crate::wide(list[at + 3]) * 16777216
+    x as u64
 }
 
 // The parts of the record at a place.
@@ -65,12 +54,12 @@ fn record_at(list: &[u8], at: usize) -> PrintRecord
     if left < 5 {
         return PrintRecord::Broken;
     }
-    let n = crate::two_at(list, at);
+    let n = numerals::little_endian::two(list, at) as usize;
     if left - 5 < n {
         return PrintRecord::Broken;
     }
     let row = at + 4 + n;
-    let m = crate::two_at(list, row - 2);
+    let m = numerals::little_endian::two(list, row - 2) as usize;
     if list.len() - row <= m {
         return PrintRecord::Broken;
     }
@@ -90,12 +79,12 @@ fn printed_at(list: &[u8], at: usize) -> ClaimRead
     if left < 5 {
         return ClaimRead::Broken;
     }
-    let n = crate::two_at(list, at + 1);
+    let n = numerals::little_endian::two(list, at + 1) as usize;
     if left - 5 < n {
         return ClaimRead::Broken;
     }
     let ends = at + 5 + n;
-    let pieces = crate::two_at(list, ends - 2);
+    let pieces = numerals::little_endian::two(list, ends - 2) as usize;
     if list.len() - ends < pieces * 4 {
         return ClaimRead::Broken;
     }
@@ -133,7 +122,7 @@ fn claim_at(list: &[u8], at: usize) -> ClaimRead
     ClaimRead::Read {
         claim: Claim::Refusal {
             number: list[at + 1],
-            place: crate::two_at(list, at + 2),
+            place: numerals::little_endian::two(list, at + 2) as usize,
         },
         next: at + 4,
     }
@@ -163,7 +152,7 @@ fn is_same_ends(ends: &[u32], list: &[u8], at: usize) -> bool
 {
     let mut i: usize = 0;
     while i < ends.len() {
-        if wide_end(ends[i]) != four_at(list, at + 4 * i) {
+        if wide_end(ends[i]) != numerals::little_endian::four(list, at + 4 * i) {
             return false;
         }
         i = i + 1;

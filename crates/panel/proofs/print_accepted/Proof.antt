@@ -13,20 +13,27 @@ use Rattle.panel.proofs.print_accepted.Statement.{statement}
 use Rattle.panel.proofs.print_accepted.Tie as tie
 
 -- what it means to be accepted
-ok : (c : tie.Start) → Fitted (c .args .fmt .now) (c .args .row .now) (length (c .args .out .now)) (length (c .args .ends .now) / 4) (c .args .bytes) (c .args .pieces)
-ok c = fitted (c .args .fmt .now) (c .args .row .now) (length (c .args .out .now)) (length (c .args .ends .now) / 4) (c .args .bytes) (c .args .pieces) (c .pre .0)
+ok :
+    (c : tie.Start) →
+    let a = c .args in
+    Fitted (a .fmt .now) (a .row .now) (length (a .out .now)) (length (a .ends .now) / 4) (a .bytes) (a .pieces)
+ok c = let a = c .args in fitted (a .fmt .now) (a .row .now) (length (a .out .now)) (length (a .ends .now) / 4) (a .bytes) (a .pieces) (c .pre .0)
 
 slice-aggregate-write-text : tie.Need-slice-aggregate-write-text
 slice-aggregate-write-text c = sym (length-take-le _ _ (omega arith))
 
 write-text-requires : tie.Need-write-text-requires
-write-text-requires c κs = simp length-take (omega (arith, ok (c .before .before .before .before .before .before .before .before .before .before) .bytes))
+write-text-requires c κs =
+    let start = c .before .before .before .before .before .before .before .before .before .before in
+    simp length-take (omega (arith, ok start .bytes))
 
 slice-aggregate-store-ends : tie.Need-slice-aggregate-store-ends
 slice-aggregate-store-ends c = sym (length-take-le _ _ (omega arith))
 
 store-ends-requires : tie.Need-store-ends-requires
-store-ends-requires c κs = simp length-take (omega (arith, ok (c .before .before .before .before .before .before .before .before .before .before .before .before .before .before .before) .slots-enough))
+store-ends-requires c κs =
+    let start = c .before .before .before .before .before .before .before .before .before .before .before .before .before .before .before in
+    simp length-take (omega (arith, ok start .slots-enough))
 
 same-length : tie.Need-same-length
 same-length c = search needs
@@ -36,9 +43,13 @@ same-length-2 c = search needs
 
 returns : tie.Need-returns
 returns c =
-    let a = c .before .before .before .before .before .before .before .before .before .before .before .before .before .before .before .before .before .before .args in
-    let h = c .before .before .before .before .before .before .before .before .before .before .before .before .before .before .before .before .before .before .pre .1 (omega arith) (omega arith) in
-    (c .before .before .before .before .before .before .before .write-text .ensures .1 ∙ ap (laid (a .out .now)) (h .0), c .before .before .store-ends .ensures ∙ ap (λ (l : List ℕ). laid (a .ends .now) (allBytes l)) (h .1))
+    let laid-text = c .before .before .before .before .before .before .before in
+    let start = laid-text .before .before .before .before .before .before .before .before .before .before .before in
+    let a = start .args in
+    let h = start .pre .1 (omega arith) (omega arith) in (
+      laid-text .write-text .ensures .1 ∙ ap (laid (a .out .now)) (h .0),
+      c .before .before .store-ends .ensures ∙ ap (λ (l : List ℕ). laid (a .ends .now) (allBytes l)) (h .1),
+    )
 
 print-long-requires : tie.Need-print-long-requires
 print-long-requires c κs = search needs

@@ -16,8 +16,11 @@ use Rattle.panel.proofs.print_long.Statement.{statement}
 use Rattle.panel.proofs.print_long.Tie as tie
 
 -- what it means to be accepted
-ok : (c : tie.Start) → Fitted (c .args .fmt .now) (c .args .row .now) (length (c .args .out .now)) (length (c .args .ends .now) / 4) (c .args .bytes) (c .args .pieces)
-ok c = fitted (c .args .fmt .now) (c .args .row .now) (length (c .args .out .now)) (length (c .args .ends .now) / 4) (c .args .bytes) (c .args .pieces) (c .pre)
+ok :
+    (c : tie.Start) →
+    let a = c .args in
+    Fitted (a .fmt .now) (a .row .now) (length (a .out .now)) (length (a .ends .now) / 4) (a .bytes) (a .pieces)
+ok c = let a = c .args in fitted (a .fmt .now) (a .row .now) (length (a .out .now)) (length (a .ends .now) / 4) (a .bytes) (a .pieces) (c .pre)
 
 few-pieces : (c : tie.Start) → c .args .pieces ≤ 512
 few-pieces c = omega (arith, ok c .accepts .pieces, few (c .args .fmt .now) (kindsOf (c .args .row .now)) .0)
@@ -30,16 +33,22 @@ stage-requires c κs = search needs
 
 array-share-prefix-slots : tie.Need-array-share-prefix-slots
 array-share-prefix-slots c =
-    let e : length (c .before .before .before .before .stage .last .1 .1 .1 .0) ≡ 512 = search needs in
-    omega (arith, e, few-pieces (c .before .before .before .before .before .before .before .before .before .before .before))
+    let staged = c .before .before .before .before in
+    let start = staged .before .before .before .before .before .before .before in
+    let e : length (staged .stage .last .1 .1 .1 .0) ≡ 512 = search needs in
+    omega (arith, e, few-pieces start)
 
 slice-aggregate-store-ends : tie.Need-slice-aggregate-store-ends
 slice-aggregate-store-ends c =
-    let e : length (c .before .before .before .before .before .stage .last .1 .1 .1 .0) ≡ 512 = search needs in
-    sym (length-take-le _ _ (omega (arith, e, few-pieces (c .before .before .before .before .before .before .before .before .before .before .before .before))))
+    let staged = c .before .before .before .before .before in
+    let start = staged .before .before .before .before .before .before .before in
+    let e : length (staged .stage .last .1 .1 .1 .0) ≡ 512 = search needs in
+    sym (length-take-le _ _ (omega (arith, e, few-pieces start)))
 
 store-ends-requires : tie.Need-store-ends-requires
-store-ends-requires c κs = simp length-take (omega (arith, ok (c .before .before .before .before .before .before .before .before .before .before .before .before) .slots-enough))
+store-ends-requires c κs =
+    let start = c .before .before .before .before .before .before .before .before .before .before .before .before in
+    simp length-take (omega (arith, ok start .slots-enough))
 
 same-length : tie.Need-same-length
 same-length c = search needs
@@ -49,11 +58,13 @@ same-length-2 c = search needs
 
 returns : tie.Need-returns
 returns c =
-    let a = c .before .before .before .before .before .before .before .before .before .before .before .before .before .before .before .args in
-    let k = ok (c .before .before .before .before .before .before .before .before .before .before .before .before .before .before .before) in
-    let v = c .before .before .before .before .before .before .before .before .stage in
-    let w = filled-of (a .fmt .now) (a .row .now) _ _ _ _ k _ _ _ _ _ (v .ensures .0) (v .ensures .1) (k .bytes) (few-pieces (c .before .before .before .before .before .before .before .before .before .before .before .before .before .before .before)) in
-    let z = ends-of (a .fmt .now) (a .row .now) _ _ _ _ k _ _ _ _ _ (v .ensures .0) (v .ensures .1) (k .bytes) (few-pieces (c .before .before .before .before .before .before .before .before .before .before .before .before .before .before .before)) in
+    let staged = c .before .before .before .before .before .before .before .before in
+    let start = staged .before .before .before .before .before .before .before in
+    let a = start .args in
+    let k = ok start in
+    let v = staged .stage .ensures in
+    let w = filled-of (a .fmt .now) (a .row .now) _ _ _ _ k _ _ _ _ _ (v .0) (v .1) (k .bytes) (few-pieces start) in
+    let z = ends-of (a .fmt .now) (a .row .now) _ _ _ _ k _ _ _ _ _ (v .0) (v .1) (k .bytes) (few-pieces start) in
     (w .0, c .before .before .store-ends .ensures ∙ ap (λ (l : List ℕ). laid (a .ends .now) (allBytes l)) z)
 
 pub print-long-spec : {M : Type 1} → statement M

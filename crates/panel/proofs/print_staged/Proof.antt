@@ -24,9 +24,15 @@ fit-requires : tie.Need-fit-requires
 fit-requires c κs = search needs
 
 -- the answer
-answered : (c : tie.After-fit) → printed (c .before .before .before .before .before .before .before .before .before .before .args .fmt .now) (c .before .before .before .before .before .before .before .before .before .before .args .row .now) (length (c .before .before .before .before .before .before .before .before .before .before .args .out .now)) (length (c .before .before .before .before .before .before .before .before .before .before .args .ends .now) / 4) ≡ c .fit .result
+answered :
+    (c : tie.After-fit) →
+    let a = c .before .before .before .before .before .before .before .before .before .before .args in
+    printed (a .fmt .now) (a .row .now) (length (a .out .now)) (length (a .ends .now) / 4) ≡ c .fit .result
 unfolding printed
-answered c = sym (c .fit .ensures ∙ ap (within (length (c .before .before .before .before .before .before .before .before .before .before .args .out .now)) (length (c .before .before .before .before .before .before .before .before .before .before .args .ends .now) / 4)) (c .before .before .before .stage .ensures .0))
+answered c =
+    let staged = c .before .before .before in
+    let a = staged .before .before .before .before .before .before .before .args in
+    sym (c .fit .ensures ∙ ap (within (length (a .out .now)) (length (a .ends .now) / 4)) (staged .stage .ensures .0))
 
 enum-known-answer : tie.Need-enum-known-answer
 enum-known-answer c = search needs
@@ -36,11 +42,13 @@ enum-told c = search needs
 
 returns : tie.Need-returns
 returns c =
-    let w = c .before .before .before .before .before .before .before .before .before .before .before .before .args in
+    let fitted-in = c .before .before in
+    let a = fitted-in .before .before .before .before .before .before .before .before .before .before .args in
+    let e = c .enum-told .given .1 in
     record {
-      answer = sym (answered (c .before .before));
-      bytes = sym (ap (λ (o : Outcome). written o (w .out .now) (printedText (w .fmt .now) (w .row .now))) (c .enum-told .given .1));
-      slots = sym (ap (λ (o : Outcome). written o (w .ends .now) (allBytes (endsFrom 0 (texts (w .fmt .now) (w .row .now))))) (c .enum-told .given .1));
+      answer = sym (answered fitted-in);
+      bytes = sym (ap (λ (o : Outcome). written o (a .out .now) (printedText (a .fmt .now) (a .row .now))) e);
+      slots = sym (ap (λ (o : Outcome). written o (a .ends .now) (allBytes (endsFrom 0 (texts (a .fmt .now) (a .row .now))))) e);
     }
 
 slice-aggregate-print-accepted : tie.Need-slice-aggregate-print-accepted
@@ -51,10 +59,14 @@ slice-aggregate-print-accepted-2 c = search needs
 
 print-accepted-requires : tie.Need-print-accepted-requires
 print-accepted-requires c κs =
-    let w = c .before .before .before .before .before .before .before .before .before .before .before .before .before .before .before .before .before .args in
-    let v = c .before .before .before .before .before .before .before .before .before .before .stage in
-    let q = answered (c .before .before .before .before .before .before .before) ∙ c .before .before .before .before .before .answer .given .1 in
-    (q, holds (w .fmt .now) (w .row .now) _ _ _ _ (fitted (w .fmt .now) (w .row .now) _ _ _ _ q) _ _ _ _ _ (v .ensures .0) (v .ensures .1) (search needs) (search needs))
+    let known = c .before .before .before .before .before in
+    let fitted-in = known .before .before in
+    let staged = fitted-in .before .before .before in
+    let a = staged .before .before .before .before .before .before .before .args in
+    let v = staged .stage .ensures in
+    let q = answered fitted-in ∙ known .answer .given .1 in
+    let f = fitted (a .fmt .now) (a .row .now) _ _ _ _ q in
+    (q, holds (a .fmt .now) (a .row .now) _ _ _ _ f _ _ _ _ _ (v .0) (v .1) (search needs) (search needs))
 
 same-length : tie.Need-same-length
 same-length c = search needs
@@ -65,7 +77,8 @@ same-length-2 c = search needs
 returns-2 : tie.Need-returns-2
 returns-2 c =
     let z = c .before .before .before .before .print-accepted .ensures in
-    record { answer = sym (answered (c .before .before .before .before .before .before .before .before .before .before .before .before) ∙ c .before .before .before .before .before .before .before .before .before .before .answer .given .1); bytes = z .0; slots = z .1 }
+    let known = c .before .before .before .before .before .before .before .before .before .before in
+    record { answer = sym (answered (known .before .before) ∙ known .answer .given .1); bytes = z .0; slots = z .1 }
 
 pub print-staged-spec : {M : Type 1} → statement M
 print-staged-spec =

@@ -7,7 +7,8 @@ use lib.Seq.{take-all, length-take-le}
 use native.Mathlib.Omega.{arith}
 use Rattle.writing.specs.Laid.{laid}
 use Rattle.writing.proofs.Laid.{laid-none, laid-next, length-laid}
-use Rattle.panel.specs.Entries.{endBytes, allBytes}
+use Rattle.numerals.specs.LittleEndian.{bytesOf}
+use Rattle.panel.specs.Entries.{allBytes}
 use Rattle.panel.proofs.Ends.{bytes-length, bytes-next}
 use borrow.Author.Needs.{needs}
 use Rattle.panel.proofs.store_ends.Statement.{statement}
@@ -23,26 +24,28 @@ loop-holds : tie.Need-loop-holds Inv-loop μ-loop
 unfolding allBytes
 loop-holds c = (omega arith, sym (laid-none (c .before .before .args .ends .now)), refl)
 
-mul-write-end : tie.Need-mul-write-end Inv-loop μ-loop
-mul-write-end c = omega (arith, c .before .before .before .before .pre, c .before .loop .inv .2)
+mul-write-four : tie.Need-mul-write-four Inv-loop μ-loop
+mul-write-four c = omega (arith, c .before .before .before .before .pre, c .before .loop .inv .2)
 
-sub-write-end : tie.Need-sub-write-end Inv-loop μ-loop
-sub-write-end c = omega (arith, c .before .before .before .before .pre, c .before .loop .inv .2)
+sub-write-four : tie.Need-sub-write-four Inv-loop μ-loop
+sub-write-four c = omega (arith, c .before .before .before .before .pre, c .before .loop .inv .2)
 
-part-write-end-start : tie.Need-part-write-end-start Inv-loop μ-loop
-part-write-end-start c = omega (arith, c .before .before .before .before .pre, c .before .loop .inv .2)
+part-write-four-start : tie.Need-part-write-four-start Inv-loop μ-loop
+part-write-four-start c = omega (arith, c .before .before .before .before .pre, c .before .loop .inv .2)
 
-part-write-end-end : tie.Need-part-write-end-end Inv-loop μ-loop
-part-write-end-end c = search needs
+part-write-four-end : tie.Need-part-write-four-end Inv-loop μ-loop
+part-write-four-end c = search needs
 
-mul-write-end-2 : tie.Need-mul-write-end-2 Inv-loop μ-loop
-mul-write-end-2 c = omega (arith, c .before .before .before .before .before .pre, c .before .before .loop .inv .2)
+mul-write-four-2 : tie.Need-mul-write-four-2 Inv-loop μ-loop
+mul-write-four-2 c = omega (arith, c .before .before .before .before .before .pre, c .before .before .loop .inv .2)
 
-shared-slice-read-write-end : tie.Need-shared-slice-read-write-end Inv-loop μ-loop
-shared-slice-read-write-end c = search needs
+shared-slice-read-write-four : tie.Need-shared-slice-read-write-four Inv-loop μ-loop
+shared-slice-read-write-four c = search needs
 
-write-end-requires : tie.Need-write-end-requires Inv-loop μ-loop
-write-end-requires c κs = simp (length-take, length-drop) (omega (arith, c .before .before .before .before .before .before .pre, c .before .before .before .loop .inv .2))
+write-four-requires : tie.Need-write-four-requires Inv-loop μ-loop
+write-four-requires c κs =
+    let in-loop = c .before .before .before in
+    simp (length-take, length-drop) (omega (arith, in-loop .before .before .before .pre, in-loop .loop .inv .2))
 
 add-k : tie.Need-add-k Inv-loop μ-loop
 add-k c = search needs
@@ -52,24 +55,31 @@ loop-less c = search needs
 
 loop-again : tie.Need-loop-again Inv-loop μ-loop
 loop-again c =
-    let l = c .before .before .before .before .before .before .loop in
-    let d = c .before .before .before .before .before .before .before .before .before .args .ends .now in
-    let s = c .before .before .before .before .before .before .before .before .before .args .slots .now in
+    let in-loop = c .before .before .before .before .before .before in
+    let start = in-loop .before .before .before in
+    let l = in-loop .loop in
+    let d = start .args .ends .now in
+    let s = start .args .slots .now in
+    let w = c .before .before .write-four in
     let k : l .k < length s = search needs in
-    let t : length (allBytes (take (l .k) s)) ≡ 4 * l .k = bytes-length (take (l .k) s) ∙ ap (λ (m : ℕ). 4 * m) (length-take-le (l .k) s (omega arith)) in
-    let o = laid-next d (allBytes (take (l .k) s)) (endBytes (getD s (l .k) 0)) (l .ends) (c .before .before .write-end .last .0) (4 * l .k) (l .inv .1) t (c .before .before .write-end .ensures) ∙ ap (laid d) (sym (bytes-next s (l .k) k)) in
+    let t : length (allBytes (take (l .k) s)) ≡ 4 * l .k =
+    bytes-length (take (l .k) s) ∙ ap (λ (m : ℕ). 4 * m) (length-take-le (l .k) s (omega arith)) in
+    let o =
+    laid-next d (allBytes (take (l .k) s)) (bytesOf 4 (getD s (l .k) 0)) (l .ends) (w .last .0) (4 * l .k) (l .inv .1) t (w .ensures)
+    ∙ ap (laid d) (sym (bytes-next s (l .k) k)) in
     let e : suc (l .k) ≡ l .k + 1 = omega arith in
-    let o₁ = o ∙ ap (λ (m : ℕ). laid d (allBytes (take m s))) e in
-    (omega arith, o₁, ap length o ∙ length-laid d (allBytes (take (suc (l .k)) s)) (omega (arith, bytes-length (take (suc (l .k)) s), length-take-le (suc (l .k)) s k, c .before .before .before .before .before .before .before .before .before .pre)))
+    let n : length (allBytes (take (suc (l .k)) s)) ≤ length d =
+    omega (arith, bytes-length (take (suc (l .k)) s), length-take-le (suc (l .k)) s k, start .pre) in
+    (omega arith, o ∙ ap (λ (m : ℕ). laid d (allBytes (take m s))) e, ap length o ∙ length-laid d (allBytes (take (suc (l .k)) s)) n)
 
 same-length : tie.Need-same-length Inv-loop μ-loop
 same-length c = c .before .loop .inv .2
 
 returns : tie.Need-returns Inv-loop μ-loop
 returns c =
+    let a = c .before .before .before .before .args in
     let l = c .before .loop in
-    let s = c .before .before .before .before .args .slots .now in
-    l .inv .1 ∙ ap (λ (m : List ℕ). laid (c .before .before .before .before .args .ends .now) (allBytes m)) (take-all (l .k) s (omega arith))
+    l .inv .1 ∙ ap (λ (m : List ℕ). laid (a .ends .now) (allBytes m)) (take-all (l .k) (a .slots .now) (omega arith))
 
 pub store-ends-spec : {M : Type 1} → statement M
 store-ends-spec =
@@ -78,13 +88,13 @@ store-ends-spec =
     Inv-loop
     μ-loop
     loop-holds
-    mul-write-end
-    sub-write-end
-    part-write-end-start
-    part-write-end-end
-    mul-write-end-2
-    shared-slice-read-write-end
-    write-end-requires
+    mul-write-four
+    sub-write-four
+    part-write-four-start
+    part-write-four-end
+    mul-write-four-2
+    shared-slice-read-write-four
+    write-four-requires
     add-k
     loop-less
     loop-again

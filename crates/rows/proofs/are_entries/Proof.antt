@@ -26,17 +26,17 @@ add-text c = search needs
 loop-holds : tie.Need-loop-holds Inv-loop μ-loop
 loop-holds c = (omega arith, ap (λ (k : ℕ). entriesFrom k (c .before .args .row .now) 1) (sub-zero (c .before .args .n)))
 
-add-number8 : tie.Need-add-number8 Inv-loop μ-loop
-add-number8 c = search needs
+add-eight : tie.Need-add-eight Inv-loop μ-loop
+add-eight c = search needs
 
-mul-number8 : tie.Need-mul-number8 Inv-loop μ-loop
-mul-number8 c = search needs
+mul-eight : tie.Need-mul-eight Inv-loop μ-loop
+mul-eight c = search needs
 
-add-number8-2 : tie.Need-add-number8-2 Inv-loop μ-loop
-add-number8-2 c = search needs
+add-eight-2 : tie.Need-add-eight-2 Inv-loop μ-loop
+add-eight-2 c = search needs
 
-number8-requires : tie.Need-number8-requires Inv-loop μ-loop
-number8-requires c κs = search needs
+eight-requires : tie.Need-eight-requires Inv-loop μ-loop
+eight-requires c κs = search needs
 
 add-is-entry : tie.Need-add-is-entry Inv-loop μ-loop
 add-is-entry c = search needs
@@ -68,7 +68,7 @@ turn c =
     let start = at-loop .before .before in
     let n = start .args .n in
     let s = start .args .row .now in
-    let v = c .before .before .before .number8 in
+    let v = c .before .before .before .eight in
     let e = c .is-entry .ensures ∙ entry-read s n (l .i) (v .result) (start .pre .1) (v .ensures) in
     ap (λ (t : Bool). t && entriesFrom (n - (l .i + 1)) s (l .i + 1 + 1)) e ∙ sym (entries-next s n (l .i) (omega arith)) ∙ l .inv .1
 
@@ -99,10 +99,10 @@ are-entries-spec =
     mul-text
     add-text
     loop-holds
-    add-number8
-    mul-number8
-    add-number8-2
-    number8-requires
+    add-eight
+    mul-eight
+    add-eight-2
+    eight-requires
     add-is-entry
     shared-slice-read-is-entry
     sub-is-entry

@@ -17,27 +17,27 @@ returns : tie.Need-returns
 unfolding rowOf isRow
 returns c = simp (lt-leb _ _ (c .if1 .taken))
 
-number2-requires : tie.Need-number2-requires
-number2-requires c κs = search needs
+two-requires : tie.Need-two-requires
+two-requires c κs = search needs
 
-number4-requires : tie.Need-number4-requires
-number4-requires c κs = search needs
+four-requires : tie.Need-four-requires
+four-requires c κs = search needs
 
 -- the two sizes, read
-known : (c : tie.After-number4)
+known : (c : tie.After-four)
     → let row = c .before .before .before .before .args .row .now in
-    let n = c .before .number2 .result in
-    let t = c .number4 .result in
+    let n = c .before .two .result in
+    let t = c .four .result in
     rowOf row
     ≡ choose (leb n mostValues && leb t mostText && eqb (length row) (6 + 9 * n + t) && entriesFrom n row 1) (λ _. Row n) (λ _. Broken)
 unfolding rowOf isRow
-known c = simp (le-leb _ _ (c .before .before .if1 .left), ← c .before .number2 .ensures .0, ← c .number4 .ensures .0)
+known c = simp (le-leb _ _ (c .before .before .if1 .left), ← c .before .two .ensures .0, ← c .four .ensures .0)
 
 -- the layout kept, but for the entries
 entries : (c : tie.After-are-entries)
     → let read = c .before .before .before .before in
     rowOf (read .before .before .before .before .args .row .now)
-    ≡ choose (c .are-entries .result) (λ _. Row (read .before .number2 .result)) (λ _. Broken)
+    ≡ choose (c .are-entries .result) (λ _. Row (read .before .two .result)) (λ _. Broken)
 entries c =
     let few = le-leb _ _ (c .before .before .before .if2 .left) in
     let short = le-leb _ _ (c .before .before .if3 .left) in
@@ -78,8 +78,8 @@ read-row-spec =
     tie.close
     (tie.spec
     returns
-    number2-requires
-    number4-requires
+    two-requires
+    four-requires
     returns-2
     returns-3
     mul-if4

@@ -21,32 +21,32 @@ inside c =
     let r = room (start .args .row .now) (start .args .argument) (start .pre) in
     omega (arith, r .0, r .2, r .3, c .count-of .ensures)
 
-add-number8 : tie.Need-add-number8
-add-number8 c = omega (arith, inside c)
+add-eight : tie.Need-add-eight
+add-eight c = omega (arith, inside c)
 
-sub-number8 : tie.Need-sub-number8
-sub-number8 c = search needs
+sub-eight : tie.Need-sub-eight
+sub-eight c = search needs
 
-mul-number8 : tie.Need-mul-number8
-mul-number8 c = omega (arith, inside c)
+mul-eight : tie.Need-mul-eight
+mul-eight c = omega (arith, inside c)
 
-add-number8-2 : tie.Need-add-number8-2
-add-number8-2 c = omega (arith, inside c)
+add-eight-2 : tie.Need-add-eight-2
+add-eight-2 c = omega (arith, inside c)
 
-number8-requires : tie.Need-number8-requires
-number8-requires c κs = omega (arith, inside c)
+eight-requires : tie.Need-eight-requires
+eight-requires c κs = omega (arith, inside c)
 
 returns : tie.Need-returns
-returns c = simp (c .before .count-of .ensures) at (c .number8 .ensures)
+returns c = simp (c .before .count-of .ensures) at (c .eight .ensures)
 
 pub value-of-spec : {M : Type 1} → statement M
 value-of-spec =
     tie.close
     (tie.spec
     count-of-requires
-    add-number8
-    sub-number8
-    mul-number8
-    add-number8-2
-    number8-requires
+    add-eight
+    sub-eight
+    mul-eight
+    add-eight-2
+    eight-requires
     returns)

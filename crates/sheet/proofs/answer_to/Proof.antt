@@ -1,4 +1,4 @@
--- `sheet::answer_to` meets its contract.
+-- `sheet::answer_to` meets its contract. Assumes nothing.
 use Prim.Native.Nat.{ℕ, _-_}
 use mathlib.Core.Path.{_≡_, refl, sym, ap, _∙_}
 use mathlib.Core.List.{List}
@@ -51,7 +51,10 @@ returns c =
     (simp (← e .0, g), (refl, (refl, tt)))
 
 -- The row begins behind the length, and in the input.
-lies : (c : tie.After-known-told) → LieIn (c .before .before .before .before .before .before .before .args .input .now) (Whole (c .before .row .given .0 .0))
+lies :
+    (c : tie.After-known-told) →
+    let start = c .before .before .before .before .before .before .before in
+    LieIn (start .args .input .now) (Whole (c .before .row .given .0 .0))
 lies c = simp (c .before .row .given .1) at (c .before .before .before .parts-of .ensures .1)
 
 sub-print : tie.Need-sub-print

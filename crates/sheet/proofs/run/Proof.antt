@@ -1,4 +1,4 @@
--- `sheet::run` is safe: what `answer_to` accepts lies in the lent arrays.
+-- `sheet::run` is safe: what `answer_to` accepts lies in the lent arrays. Assumes nothing.
 use borrow.Author.Needs.{needs}
 use Rattle.sheet.proofs.run.Statement.{statement}
 use Rattle.sheet.proofs.run.Tie as tie

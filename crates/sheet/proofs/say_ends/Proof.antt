@@ -1,4 +1,4 @@
--- `sheet::say_ends` is safe and ends.
+-- `sheet::say_ends` is safe and ends. Assumes nothing.
 use Prim.Native.Nat.{_-_}
 use borrow.Author.Needs.{needs}
 use Rattle.sheet.proofs.say_ends.Statement.{statement}

@@ -1,4 +1,4 @@
--- `sheet::say_outcome` is safe: an accepted text lies in the output.
+-- `sheet::say_outcome` is safe: an accepted text lies in the output. Assumes nothing.
 use borrow.Author.Needs.{needs}
 use Rattle.sheet.proofs.say_outcome.Statement.{statement}
 use Rattle.sheet.proofs.say_outcome.Tie as tie

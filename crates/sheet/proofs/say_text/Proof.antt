@@ -1,4 +1,4 @@
--- `sheet::say_text` is safe: the text is a part of the output.
+-- `sheet::say_text` is safe: the text is a part of the output. Assumes nothing.
 use lib.ListN.{length-take}
 use native.Mathlib.Omega.{arith}
 use borrow.Author.Needs.{needs}

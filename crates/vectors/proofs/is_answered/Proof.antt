@@ -1,4 +1,4 @@
--- `vectors::is_answered` meets its contract: what `check` answers is what `checked` gives.
+-- `vectors::is_answered` meets its contract: what `check` answers is what `checked` gives. Assumes nothing.
 use borrow.Author.Needs.{needs}
 use Rattle.vectors.proofs.is_answered.Statement.{statement}
 use Rattle.vectors.proofs.is_answered.Tie as tie

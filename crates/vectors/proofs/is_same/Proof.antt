@@ -1,4 +1,4 @@
--- `vectors::is_same` meets its contract, by cases on the second answer.
+-- `vectors::is_same` meets its contract, by cases on the second answer. Assumes nothing.
 use borrow.Author.Needs.{needs}
 use Rattle.vectors.proofs.is_same.Statement.{statement}
 use Rattle.vectors.proofs.is_same.Tie as tie

@@ -1,4 +1,4 @@
--- `vectors::run_list` meets its contract and ends: each turn goes on behind its record, and no more records are counted than bytes.
+-- `vectors::run_list` meets its contract and ends: each turn goes on behind its record, and no more records are counted than bytes. Assumes nothing.
 use Prim.Native.Nat.{_+_, _-_, _≤_}
 use borrow.Author.Needs.{needs}
 use native.Mathlib.Omega.{arith}

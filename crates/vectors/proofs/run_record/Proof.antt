@@ -1,4 +1,4 @@
--- `vectors::run_record` meets its contract: the facts of the record and of its answer, read off the answers of `record_at` and `expected_at`.
+-- `vectors::run_record` meets its contract: the facts of the record and of its answer, read off the answers of `record_at` and `expected_at`. Assumes nothing.
 use Prim.Native.Nat.{ℕ, _≤_, _<_}
 use mathlib.Core.List.{List}
 use lib.ListN.{length}
@@ -57,13 +57,14 @@ behind :
     (start .t .at < next) × (next ≤ length (start .list .now))
 behind c =
     let f = c .before .before .before .before in
+    let start = f .before .before .before .before .before .before .args in
     let e = f .before .before .before .record-at .ensures in
     let h = simp (f .before .format .given .1) at e in
     let d = c .before .before .before .expected-at .ensures in
     let g = c .before .checked .given .0 in
     let answer = f .before .format .given .0 .1 .1 .0 in
     let k =
-    answer-in (f .before .before .before .before .before .before .args .list .now) answer (g .0) (g .1 .0) (simp (c .before .checked .given .1) at d) in
+    answer-in (start .list .now) answer (g .0) (g .1 .0) (simp (c .before .checked .given .1) at d) in
     (omega (arith, h, k), k .1)
 
 counted-requires : tie.Need-counted-requires

@@ -1,4 +1,4 @@
--- `vectors::prints::is_left` meets its contract: the outcome by its fields, the text and the ends by what the comparisons found.
+-- `vectors::prints::is_left` meets its contract: the outcome by its fields, the text and the ends by what the comparisons found. Assumes nothing.
 use Prim.Native.Nat.{_-_, _≤_}
 use mathlib.Core.Path.{sym}
 use lib.ListN.{length}
@@ -9,13 +9,17 @@ use borrow.Author.Needs.{needs}
 use Rattle.vectors.proofs.prints.is_left.Statement.{statement}
 use Rattle.vectors.proofs.prints.is_left.Tie as tie
 
+-- The call, from where the outcome is known to be the record's.
+abbrev start : tie.Else2 → tie.Start
+start c = c .before .before .before .before .before .before .before .before
+
 -- What was accepted lies in the output and the ends.
 room :
     (c : tie.Else2) →
-    let s = c .before .before .before .before .before .before .before .before .args in
+    let s = start c .args in
     (s .at - 2 - s .text ≤ length (s .out .now)) × (s .pieces ≤ length (s .ends .now))
 room c =
-    let e = c .before .before .before .before .before .before .before .before .pre .0 in
+    let e = start c .pre .0 in
     let h = simp (c .before .before .before .found .given .1) at e in
     (omega (arith, h), omega (arith, h))
 
@@ -42,7 +46,7 @@ returns-3 c = search needs
 
 slice-aggregate-is-same-bytes : tie.Need-slice-aggregate-is-same-bytes
 slice-aggregate-is-same-bytes c =
-    let s = c .before .before .before .before .before .before .before .before .before .args in
+    let s = start (c .before) .args in
     sym (length-take-le (s .at - 2 - s .text) (s .out .now) (room (c .before) .0))
 
 sub-is-same-bytes : tie.Need-sub-is-same-bytes
@@ -62,22 +66,26 @@ is-same-bytes-requires c κs = search needs
 
 slice-aggregate-is-same-ends : tie.Need-slice-aggregate-is-same-ends
 slice-aggregate-is-same-ends c =
-    let s = c .before .before .before .before .before .before .before .before .before .before .before .before .before .args in
-    sym (length-take-le (s .pieces) (s .ends .now) (room (c .before .before .before .before .before) .1))
+    let told = c .before .before .before .before .before in
+    let s = start told .args in
+    sym (length-take-le (s .pieces) (s .ends .now) (room told .1))
 
 is-same-ends-requires : tie.Need-is-same-ends-requires
 is-same-ends-requires c κs =
-    let s = c .before .before .before .before .before .before .before .before .before .before .before .before .before .args in
-    omega (arith, length-take-le (s .pieces) (s .ends .now) (room (c .before .before .before .before .before) .1))
+    let told = c .before .before .before .before .before in
+    let s = start told .args in
+    omega (arith, length-take-le (s .pieces) (s .ends .now) (room told .1))
 
 returns-4 : tie.Need-returns-4
 returns-4 c =
-    let s = c .before .before .before .before .before .before .before .before .before .before .before .before .before .before .args in
+    let told = c .before .before .before .before .before .before in
+    let s = start told .args in
     let e = c .before .before .before .is-same-bytes .ensures in
     let t = simp (c .before .before .if3 .taken) at e in
-    let g = c .before .before .before .before .before .before .before .before .before .found .given .1 in
-    let o = simp (c .before .before .before .before .before .before .before .if1 .left, c .before .before .before .before .before .before .if2 .left) at g in
-    left (c .is-same-ends .result) (s .found) (s .out .now) (s .ends .now) (s .list .now) (s .text) (s .at) (s .pieces) (room (c .before .before .before .before .before .before) .1) o t (c .is-same-ends .ensures)
+    let g = told .before .before .before .found .given .1 in
+    let o = simp (told .before .if1 .left, told .if2 .left) at g in
+    left (c .is-same-ends .result) (s .found) (s .out .now) (s .ends .now) (s .list .now) (s .text) (s .at) (s .pieces)
+    (room told .1) o t (c .is-same-ends .ensures)
 
 returns-5 : tie.Need-returns-5
 returns-5 c = search needs

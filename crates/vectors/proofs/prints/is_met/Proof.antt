@@ -1,4 +1,4 @@
--- `vectors::prints::is_met` meets its contract: what `print` answers and leaves is what the definitions give.
+-- `vectors::prints::is_met` meets its contract: what `print` answers and leaves is what the definitions give. Assumes nothing.
 use Prim.Native.Nat.{_-_}
 use lib.ListN.{length}
 use native.Mathlib.Omega.{arith}
@@ -49,13 +49,16 @@ slice-aggregate-is-left-2 c = search needs
 
 is-left-requires : tie.Need-is-left-requires
 is-left-requires c κs =
-    let p = c .before .before .before .before .before .before .before .print in
-    let s = c .before .before .before .before .before .before .before .before .before .before .before .before .before in
+    let printed = c .before .before .before .before .before .before .before in
+    let s = printed .before .before .before .before .before .before in
+    let p = printed .print in
     let q = s .pre .3 in
     let h = simp (c .before .before .before .claim .given .1) at q in
     let f = between (s .args .format) (s .args .row - 2) (s .args .list .now) in
     let r = between (s .args .row) (s .args .answer) (s .args .list .now) in
-    (in-room f r (p .result) 2048 512 (length (p .last .1 .1 .0)) (length (p .last .1 .1 .1 .0)) (p .ensures .0) (search needs) (search needs), omega (arith, h), omega (arith, h))
+    let fits =
+    in-room f r (p .result) 2048 512 (length (p .last .1 .1 .0)) (length (p .last .1 .1 .1 .0)) (p .ensures .0) (search needs) (search needs) in
+    (fits, omega (arith, h), omega (arith, h))
 
 enum-told : tie.Need-enum-told
 enum-told c = search needs
@@ -71,26 +74,31 @@ is-refused-requires c κs = search needs
 
 returns : tie.Need-returns
 returns c =
-    let p = c .before .before .before .before .before .before .before .before .print in
-    let s = c .before .before .before .before .before .before .before .before .before .before .before .before .before .before .args in
+    let printed = c .before .before .before .before .before .before .before .before in
+    let s = printed .before .before .before .before .before .before .args in
+    let p = printed .print in
+    let e = p .ensures in
     let f = between (s .format) (s .row - 2) (s .list .now) in
     let r = between (s .row) (s .answer) (s .list .now) in
     let k = c .before .before .before .before .claim .given in
     simp (k .1)
-    (met-printed (c .is-left .result) (s .list .now) f r _ _ (p .last .1 .1 .0) (p .last .1 .1 .1 .0) (p .result) (k .0 .0) (k .0 .1 .0) (k .0 .1 .1 .0) (p .ensures .0) (p .ensures .1 .0) (p .ensures .1 .1 .0) (c .is-left .ensures))
+    (met-printed (c .is-left .result) (s .list .now) f r _ _ (p .last .1 .1 .0) (p .last .1 .1 .1 .0) (p .result) (k .0 .0) (k .0 .1 .0) (k .0 .1 .1 .0)
+    (e .0) (e .1 .0) (e .1 .1 .0) (c .is-left .ensures))
 
 returns-2 : tie.Need-returns-2
 returns-2 c =
-    let p = c .before .before .before .before .before .print in
-    let s = c .before .before .before .before .before .before .before .before .before .before .before .args in
+    let printed = c .before .before .before .before .before in
+    let s = printed .before .before .before .before .before .before .args in
+    let p = printed .print in
     let f = between (s .format) (s .row - 2) (s .list .now) in
     let r = between (s .row) (s .answer) (s .list .now) in
     simp (c .before .enum-told .given .1) (met-any (c .is-refusal .result) (s .list .now) f r (p .result) (p .ensures .0) (c .is-refusal .ensures))
 
 returns-3 : tie.Need-returns-3
 returns-3 c =
-    let p = c .before .before .before .before .before .before .print in
-    let s = c .before .before .before .before .before .before .before .before .before .before .before .before .args in
+    let printed = c .before .before .before .before .before .before in
+    let s = printed .before .before .before .before .before .before .args in
+    let p = printed .print in
     let f = between (s .format) (s .row - 2) (s .list .now) in
     let r = between (s .row) (s .answer) (s .list .now) in
     let k = c .before .before .claim2 .given in

@@ -1,4 +1,4 @@
--- `vectors::prints::is_refusal` meets its contract, by cases on the outcome.
+-- `vectors::prints::is_refusal` meets its contract, by cases on the outcome. Assumes nothing.
 use borrow.Author.Needs.{needs}
 use Rattle.vectors.proofs.prints.is_refusal.Statement.{statement}
 use Rattle.vectors.proofs.prints.is_refusal.Tie as tie

@@ -1,4 +1,4 @@
--- `vectors::prints::is_same_bytes` meets its contract: the bytes up to i agree.
+-- `vectors::prints::is_same_bytes` meets its contract: the bytes up to i agree. Assumes nothing.
 use Prim.Native.Nat.{_-_, _≤_}
 use mathlib.Core.Path.{_≡_}
 use lib.ListN.{length, take}

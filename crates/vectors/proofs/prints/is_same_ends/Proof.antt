@@ -1,4 +1,4 @@
--- `vectors::prints::is_same_ends` meets its contract: the ends up to i are those that stand in the list.
+-- `vectors::prints::is_same_ends` meets its contract: the ends up to i are those that stand in the list. Assumes nothing.
 use Prim.Native.Nat.{_-_, _≤_}
 use mathlib.Core.Path.{_≡_}
 use lib.ListN.{length, take}
@@ -28,14 +28,14 @@ shared-slice-read-wide-end c = search needs
 wide-end-requires : tie.Need-wide-end-requires Inv-loop μ-loop
 wide-end-requires c κs = search needs
 
-mul-four-at : tie.Need-mul-four-at Inv-loop μ-loop
-mul-four-at c = search needs
+mul-four : tie.Need-mul-four Inv-loop μ-loop
+mul-four c = search needs
 
-add-four-at : tie.Need-add-four-at Inv-loop μ-loop
-add-four-at c = search needs
+add-four : tie.Need-add-four Inv-loop μ-loop
+add-four c = search needs
 
-four-at-requires : tie.Need-four-at-requires Inv-loop μ-loop
-four-at-requires c κs = search needs
+four-requires : tie.Need-four-requires Inv-loop μ-loop
+four-requires c κs = search needs
 
 returns : tie.Need-returns Inv-loop μ-loop
 returns c = search needs
@@ -48,8 +48,9 @@ loop-less c = search needs
 
 loop-again : tie.Need-loop-again Inv-loop μ-loop
 loop-again c =
-    let l = c .before .before .before .before .before .loop in
-    let s = c .before .before .before .before .before .before .before .before .args in
+    let in-loop = c .before .before .before .before .before in
+    let s = in-loop .before .before .before .args in
+    let l = in-loop .loop in
     (omega arith, fours-more (s .ends .now) (s .list .now) (s .at) (l .i) (omega arith) (l .inv .1) (search needs))
 
 returns-2 : tie.Need-returns-2 Inv-loop μ-loop
@@ -68,9 +69,9 @@ is-same-ends-spec =
     mul-wide-end
     shared-slice-read-wide-end
     wide-end-requires
-    mul-four-at
-    add-four-at
-    four-at-requires
+    mul-four
+    add-four
+    four-requires
     returns
     add-i
     loop-less

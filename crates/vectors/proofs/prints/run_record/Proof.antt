@@ -1,4 +1,4 @@
--- `vectors::prints::run_record` meets its contract: the facts of the record and of its claim, read off the answers of `record_at` and `claim_at`.
+-- `vectors::prints::run_record` meets its contract: the facts of the record and of its claim, read off the answers of `record_at` and `claim_at`. Assumes nothing.
 use Prim.Native.Nat.{ℕ, _≤_, _<_}
 use mathlib.Core.List.{List}
 use lib.ListN.{length}
@@ -51,12 +51,13 @@ behind :
     (start .t .at < next) × (next ≤ length (start .list .now))
 behind c =
     let f = c .before .before .before .before in
+    let start = f .before .before .before .before .before .before .args in
     let e = f .before .before .before .record-at .ensures in
     let h = simp (f .before .format .given .1) at e in
     let d = c .before .before .before .claim-at .ensures in
     let g = c .before .claim .given .0 in
     let answer = f .before .format .given .0 .1 .1 .0 in
-    let k = claim-in (c .before .before .before .before .before .before .before .before .before .before .args .list .now) answer (g .0) (g .1 .0) (simp (c .before .claim .given .1) at d) in
+    let k = claim-in (start .list .now) answer (g .0) (g .1 .0) (simp (c .before .claim .given .1) at d) in
     (omega (arith, h, k), k .1)
 
 is-met-requires : tie.Need-is-met-requires

@@ -1,12 +1,12 @@
--- `rows::number2` meets its contract. Assumes nothing.
+-- `numerals::little_endian::two` meets its contract. Assumes nothing.
 use Prim.Native.Nat.{_+_, _*_}
 use mathlib.Core.Path.{_≡_}
 use native.Mathlib.Omega.{arith}
-use Rattle.rows.specs.Numbers.{numberAt}
-use Rattle.rows.proofs.Numbers.{number-add, number-one}
+use Rattle.numerals.specs.LittleEndian.{wordAt}
+use Rattle.numerals.proofs.LittleEndian.{word-add, word-one}
 use borrow.Author.Needs.{needs}
-use Rattle.rows.proofs.number2.Statement.{statement}
-use Rattle.rows.proofs.number2.Tie as tie
+use Rattle.numerals.proofs.little_endian.two.Statement.{statement}
+use Rattle.numerals.proofs.little_endian.two.Tie as tie
 
 shared-slice-read-wide : tie.Need-shared-slice-read-wide
 shared-slice-read-wide c = search needs
@@ -33,13 +33,13 @@ returns : tie.Need-returns
 returns c =
     let a = c .before .before .before .before .before .args in
     let s = a .s .now in
-    let e : numberAt 2 s (a .at) ≡ numberAt 1 s (a .at) + 256 * numberAt 1 s (a .at + 1) = number-add 1 1 s (a .at) (omega arith) in
-    let u = number-one s (a .at) (omega arith) in
-    let v = number-one s (a .at + 1) (omega arith) in
+    let e : wordAt 2 s (a .at) ≡ wordAt 1 s (a .at) + 256 * wordAt 1 s (a .at + 1) = word-add 1 1 s (a .at) (omega arith) in
+    let u = word-one s (a .at) (omega arith) in
+    let v = word-one s (a .at + 1) (omega arith) in
     (omega arith, omega arith)
 
-pub number2-spec : {M : Type 1} → statement M
-number2-spec =
+pub two-spec : {M : Type 1} → statement M
+two-spec =
     tie.close
     (tie.spec
     shared-slice-read-wide
