@@ -9,7 +9,7 @@ ghost use lib.ListN.{length};
 ghost use Rattle.writing.specs.Laid.{laid};
 ghost use Rattle.binary64.specs.Fields.{negative, exponentField, fractionField, categoryOf, scaledBits};
 ghost use Rattle.binary64.specs.Rounding.{nearestTo, keptDigits};
-ghost use Rattle.binary64.specs.HexFloat.{shortest, rounded, normalOf, subnormalForm, subnormalOf, hexFloatOf, leadingDigit, exponentLetter, exponentText, hexFloatText};
+ghost use Rattle.binary64.specs.HexFloat.{shortest, rounded, normalOf, subnormalForm, subnormalOf, hexFloatOf, leadingLetter, exponentLetter, exponentText, hexFloatText};
 
 // The fields of a bit pattern: sign, biased exponent, fraction.
 pub struct FloatParts {
@@ -239,9 +239,9 @@ fn exponent_letter(upper: bool) -> u8
     ensures { λ r. ⌜ r ≡ exponentLetter upper ⌝ }
 {
     if upper {
-        return 80;
+        return b'P';
     }
-    112
+    b'p'
 }
 
 // The length of the exponent's text, in small letters and capitals alike.
@@ -261,7 +261,7 @@ pub fn write_exponent(out: &mut [u8], exponent: u32, bias: u32, upper: bool) -> 
 {
     out[0] = exponent_letter(upper);
     if exponent < bias {
-        out[1] = 45;
+        out[1] = b'-';
         let below = (bias - exponent) as u64;
         let n = numerals::decimal_len(below);
         return 2 + numerals::write_digits(&mut out[2..], below, 10, n, false);
@@ -281,12 +281,12 @@ pub fn hex_float_len(h: HexFloat) -> u64
 
 // The digit before the point.
 fn leading_letter(leading: bool) -> u8
-    ensures { λ r. ⌜ r ≡ 48 + leadingDigit leading ⌝ }
+    ensures { λ r. ⌜ r ≡ leadingLetter leading ⌝ }
 {
     if leading {
-        return 49;
+        return b'1';
     }
-    48
+    b'0'
 }
 
 // Writes the text. Answers its length.
@@ -297,8 +297,8 @@ pub fn write_hex_float(out: &mut [u8], h: HexFloat, upper: bool) -> usize
     let digits = h.digits as usize;
     let zeros = h.zeros as usize;
     out[0] = leading_letter(h.leading);
-    out[1] = 46;
+    out[1] = b'.';
     let a = 2 + numerals::write_digits(&mut out[2..], h.fraction, 16, digits, upper);
-    let b = a + writing::write_fill(&mut out[a..], zeros, 48);
+    let b = a + writing::write_fill(&mut out[a..], zeros, b'0');
     b + write_exponent(&mut out[b..], h.exponent, h.bias, upper)
 }

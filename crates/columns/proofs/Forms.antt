@@ -7,6 +7,7 @@ use Rattle.conversions.specs.declared.Family.the-variants as C
 use Rattle.conversions.specs.declared.Kind.{Kind}
 use Rattle.conversions.specs.declared.Kind.the-variants as K
 use Rattle.conversions.specs.declared.IntegerForm.{IntegerForm}
+use Rattle.conversions.specs.declared.IntegerForm.the-variants.{Numeral, Scalar}
 use Rattle.conversions.specs.declared.Form.{Form}
 use Rattle.conversions.specs.declared.Form.the-variants as F
 
@@ -42,7 +43,8 @@ module _ (Q : ℕ → Type 0) where
   only-if false f h = tt
 
   pub form-of : (c : Family) (k : Kind) → OfKind Q k → OfForm Q (formOf c k)
-  form-of (C.Integral f) k h = integer-form f k h
+  form-of C.Char k h = integer-form Scalar k h
+  form-of (C.Numeral r) k h = integer-form (Numeral r) k h
   form-of C.Text k h = string-form k h
   form-of C.HexFloat k h = only-if (isFloat k) F.HexFloat tt
   form-of C.Boolean k h = only-if (isBoolean k) F.Boolean tt

@@ -6,14 +6,12 @@ use Rattle.conversions.specs.declared.ConversionType.the-variants as C
 use Rattle.conversions.specs.declared.Family.{Family}
 use Rattle.conversions.specs.declared.Family.the-variants as F
 use Rattle.conversions.specs.declared.Letter.the-variants.{Conversion}
-use Rattle.conversions.specs.declared.IntegerForm.the-variants.{Numeral, Scalar, Digits}
 use Rattle.columns.specs.Columns.{numeralLetter, floatLetter}
 
 -- By the family of the conversion; the letters of the others are not read back.
 abbrev pub LetterNames : ConversionType → Family → Type 0
-LetterNames c (F.Integral (Numeral r)) = conversionOf (numeralLetter r (isUpper c)) ≡ Conversion c
-LetterNames c (F.Integral Scalar) = Unit {0}
-LetterNames c (F.Integral Digits) = Unit {0}
+LetterNames c (F.Numeral r) = conversionOf (numeralLetter r (isUpper c)) ≡ Conversion c
+LetterNames c F.Char = Unit {0}
 LetterNames c F.HexFloat = conversionOf (floatLetter (isUpper c)) ≡ Conversion c
 LetterNames c F.Boolean = Unit {0}
 LetterNames c F.DecimalFloat = Unit {0}

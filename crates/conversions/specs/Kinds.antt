@@ -11,7 +11,7 @@ use Rattle.conversions.specs.declared.Kind.the-variants as K
 use Rattle.conversions.specs.declared.KindByte.{KindByte}
 use Rattle.conversions.specs.declared.KindByte.the-variants.{Known, Unknown}
 use Rattle.conversions.specs.declared.IntegerForm.{IntegerForm}
-use Rattle.conversions.specs.declared.IntegerForm.the-variants.{Digits}
+use Rattle.conversions.specs.declared.IntegerForm.the-variants.{Numeral, Scalar, Digits}
 use Rattle.conversions.specs.declared.Form.{Form}
 use Rattle.conversions.specs.declared.Form.the-variants.{Integer, HexFloat, Boolean, Text, NotPrinted}
 
@@ -47,7 +47,8 @@ isNumber k = isInteger k || isFloat k
 -- What fits. 01: "b needs 6; c, d, o, x need 1 to 4; e, f, g, a need 1 to 5; t and T fit none of our kinds; s and h take all."
 abbrev pub fits : Family → Kind → Bool
 fits F.Boolean k = isBoolean k
-fits (F.Integral f) k = isInteger k
+fits F.Char k = isInteger k
+fits (F.Numeral r) k = isInteger k
 fits F.HexFloat k = isNumber k
 fits F.DecimalFloat k = isNumber k
 fits F.Time k = false
@@ -73,7 +74,8 @@ onlyIf true f = f
 onlyIf false f = NotPrinted
 
 abbrev pub formOf : Family → Kind → Form
-formOf (F.Integral f) k = integerForm f k
+formOf F.Char k = integerForm Scalar k
+formOf (F.Numeral r) k = integerForm (Numeral r) k
 formOf F.Text k = stringForm k
 formOf F.HexFloat k = onlyIf (isFloat k) HexFloat
 formOf F.Boolean k = onlyIf (isBoolean k) Boolean

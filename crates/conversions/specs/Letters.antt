@@ -13,7 +13,6 @@ use Rattle.conversions.specs.declared.Class.{Class}
 use Rattle.conversions.specs.declared.Family.{Family}
 use Rattle.conversions.specs.declared.Family.the-variants as F
 use Rattle.conversions.specs.declared.Radix.the-variants.{Decimal, Octal, Hexadecimal}
-use Rattle.conversions.specs.declared.IntegerForm.the-variants.{Numeral, Scalar}
 use Rattle.conversions.specs.declared.TimeLetter.{TimeLetter}
 use Rattle.conversions.specs.declared.TimeLetter.the-variants.{Component, NoComponent}
 use Rattle.conversions.specs.declared.Letter.{Letter}
@@ -61,12 +60,12 @@ classOf C.HexHashLower = inSmall F.Hash
 classOf C.HexHashUpper = inCapitals F.Hash
 classOf C.StringLower = inSmall F.Text
 classOf C.StringUpper = inCapitals F.Text
-classOf C.CharLower = inSmall (F.Integral Scalar)
-classOf C.CharUpper = inCapitals (F.Integral Scalar)
-classOf C.DecInt = inSmall (F.Integral (Numeral Decimal))
-classOf C.OctInt = inSmall (F.Integral (Numeral Octal))
-classOf C.HexIntLower = inSmall (F.Integral (Numeral Hexadecimal))
-classOf C.HexIntUpper = inCapitals (F.Integral (Numeral Hexadecimal))
+classOf C.CharLower = inSmall F.Char
+classOf C.CharUpper = inCapitals F.Char
+classOf C.DecInt = inSmall (F.Numeral Decimal)
+classOf C.OctInt = inSmall (F.Numeral Octal)
+classOf C.HexIntLower = inSmall (F.Numeral Hexadecimal)
+classOf C.HexIntUpper = inCapitals (F.Numeral Hexadecimal)
 classOf C.SciFloatLower = inSmall F.DecimalFloat
 classOf C.SciFloatUpper = inCapitals F.DecimalFloat
 classOf C.DecFloatLower = inSmall F.DecimalFloat

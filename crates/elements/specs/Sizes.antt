@@ -39,11 +39,11 @@ pub record Sized (d : List ℕ) (t : Shown) (r : Size) (out : List ℕ) : Type 0
   pub below : SizeBelow r
   pub bytes : out ≡ laidIfRoom d (textOf t)
 
--- The digits of a numeral, with commas only where the base is ten.
+-- The digits of a numeral; where it is grouped, in decimal with commas.
 abbrev pub digitsText : Numeral → List ℕ
 digitsText n = choose (n .grouped) (λ _. grouped (decimal (n .value))) (λ _. numeral (n .upper) (n .base) (n .value))
 
--- The numeral of an integer of w bits with the pattern v, in each base.
+-- The numeral of %d, of %x and %o, and that of an integer of w bits with the pattern v in each base.
 abbrev pub signedNumeral : Flags → ℕ → Numeral
 signedNumeral f v = record { mark = integerMark f (isNegative (intOf 64 v)); prefix = NoPrefix; value = natAbs (intOf 64 v); base = 10; upper = false; grouped = f .grouping }
 

@@ -11,10 +11,11 @@ use lib.Dec.{leb}
 use lib.ListN.{length, getD, drop, length-drop, drop-of-length-le}
 use lib.Seq.{drop-cons}
 use borrow.Author.Tests.{leb-true, leb-false, le-leb, lt-leb}
+use Rattle.refusals.specs.Limits.{largestNumber}
 use Rattle.writing.specs.Choose.{choose}
 use Rattle.writing.proofs.Choose.{by-test}
 use Rattle.numerals.specs.Digits.{numberFrom, numberOf}
-use Rattle.numerals.specs.Params.{isDigit, leadingDigits, largestNumber, numberTaken, numberAt, beginsParam, isParam, paramOf, paramAt}
+use Rattle.numerals.specs.Params.{isDigit, leadingDigits, numberTaken, numberAt, beginsParam, isParam, paramOf, paramAt}
 use Rattle.numerals.specs.declared.NumericParam.the-variants.{Literal, FromArgument}
 use Rattle.numerals.specs.declared.Number.{Number}
 use Rattle.numerals.specs.declared.Number.the-variants as N

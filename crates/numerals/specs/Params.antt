@@ -5,6 +5,7 @@ use mathlib.Core.Bool.{Bool, true, false, not, _&&_, _||_}
 use mathlib.Core.List.{List, [], _∷_}
 use lib.Dec.{leb, eqb}
 use lib.ListN.{length, drop}
+use Rattle.refusals.specs.Limits.{largestNumber}
 use Rattle.writing.specs.Choose.{choose}
 use Rattle.numerals.specs.Digits.{numberOf}
 use Rattle.numerals.specs.declared.NumericParam.the-variants.{Literal, FromArgument}
@@ -30,11 +31,7 @@ abbrev pub isParam : Bool → List ℕ → Bool
 isParam zero [] = false
 isParam zero (c ∷ cs) = beginsParam zero c
 
--- 01: "number above 2,147,483,647" is refused.
-abbrev pub largestNumber : ℕ
-largestNumber = 2147483647
-
--- The number of the digits that stand in the text s from the place at on, and the place behind them.
+-- The number of the digits that stand in the text s from the place at on, and the place behind them. 01: "number above 2,147,483,647" is refused.
 unfoldable pub numberTaken : ℕ → List ℕ → Number
 numberTaken at ds =
     choose (leb (numberOf 10 ds) largestNumber) (λ _. N.Value (numberOf 10 ds) (at + length ds)) (λ _. N.TooLarge)

@@ -8,9 +8,10 @@ use native.Mathlib.Omega.{arith}
 use lib.Dec.{eqb, leb, ltb}
 use lib.ListN.{length, getD, drop}
 use borrow.Author.Tests.{ltb-true, ltb-false, leb-true, leb-false, eqb-true, eqb-false, lt-ltb, le-ltb, le-leb, lt-leb, eq-eqb, ne-eqb}
+use Rattle.refusals.specs.Limits.{mostFormat, mostKinds, mostPieces, largestNumber}
 use Rattle.writing.proofs.Choose.{by-test, both}
 use Rattle.numerals.specs.Digits.{numberOf}
-use Rattle.numerals.specs.Params.{isDigit, isParam, leadingDigits, largestNumber, numberTaken, numberAt, paramAt}
+use Rattle.numerals.specs.Params.{isDigit, isParam, leadingDigits, numberTaken, numberAt, paramAt}
 use Rattle.numerals.specs.declared.Number.{Number}
 use Rattle.numerals.specs.declared.NumericParam.{NumericParam}
 use Rattle.numerals.specs.declared.Taken.{Taken}
@@ -28,9 +29,8 @@ use Rattle.specifiers.specs.declared.Specifier.{Specifier}
 use Rattle.specifiers.specs.declared.Specifier.the-variants as S
 use Rattle.parsing.specs.Pieces.{start, within, isIndex, indexOf, indexAt, sameIndex, argumentAt}
 use Rattle.parsing.specs.Pieces.{afterSpecifier, afterIndex, elementAt, pieceAt}
-use Rattle.parsing.specs.Limits.{mostFormat}
-use Rattle.parsing.specs.Listed.{mostPieces, afterStep, endFrom, placed, ended}
-use Rattle.parsing.specs.Check.{allKnown, mostKinds, checkedEnd, checked}
+use Rattle.parsing.specs.Listed.{afterStep, endFrom, placed, ended}
+use Rattle.parsing.specs.Check.{allKnown, checkedEnd, checked}
 use Rattle.parsing.specs.Causes.{Percent, Then, Takes, Fault, Reached, Read, Cause}
 use Rattle.parsing.specs.Causes as K
 use Rattle.parsing.specs.declared.Index.{Index}

@@ -7,10 +7,11 @@ use native.Mathlib.Decide.{decLt}
 use native.Mathlib.Omega.{arith}
 use lib.Dec.{leb}
 use lib.ListN.{length}
+use Rattle.refusals.specs.Limits.{mostKinds, mostPieces}
 use Rattle.utf8.specs.Utf8.{wellFormed, wellFormedFrom}
 use Rattle.parsing.specs.Pieces.{start, pieceAt}
-use Rattle.parsing.specs.Listed.{mostPieces, placedFrom, endFrom, placed, ended}
-use Rattle.parsing.specs.Check.{allKnown, mostKinds, largestOf, checked}
+use Rattle.parsing.specs.Listed.{placedFrom, endFrom, placed, ended}
+use Rattle.parsing.specs.Check.{allKnown, largestOf, checked}
 use Rattle.parsing.specs.Covers.{Covers}
 use Rattle.parsing.specs.declared.Cursor.{Cursor}
 use Rattle.parsing.specs.declared.Step.{Step}

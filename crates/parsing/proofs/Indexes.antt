@@ -9,9 +9,10 @@ use native.Mathlib.Omega.{arith}
 use lib.Dec.{eqb, leb}
 use lib.ListN.{length, drop}
 use borrow.Author.Tests.{leb-true, eqb-false, not-true}
+use Rattle.refusals.specs.Limits.{largestNumber}
 use Rattle.writing.proofs.Choose.{by-test, both}
 use Rattle.numerals.specs.Digits.{numberFrom, numberOf}
-use Rattle.numerals.specs.Params.{isDigit, isParam, leadingDigits, largestNumber, numberTaken, numberAt}
+use Rattle.numerals.specs.Params.{isDigit, isParam, leadingDigits, numberTaken, numberAt}
 use Rattle.numerals.specs.declared.Number.{Number}
 use Rattle.numerals.specs.declared.Number.the-variants as N
 use Rattle.numerals.proofs.Params.{number-grows}

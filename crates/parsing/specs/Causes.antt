@@ -1,4 +1,4 @@
--- The causes of 01's table, "What stops a call", for checking: what holds of a format and kinds where a number is returned.
+-- For laws alone: the causes of 01's table, "What stops a call", for checking: what holds of a format and kinds where a number is returned.
 use Prim.Native.Nat.{ℕ, suc, _+_, _-_, _≤_, _<_}
 use Prim.Native.Char.{Char, code}
 use mathlib.Core.Path.{_≡_}
@@ -6,8 +6,9 @@ use mathlib.Core.Bool.{Bool, true, false, _&&_}
 use mathlib.Core.List.{List}
 use lib.Dec.{leb}
 use lib.ListN.{length, getD, drop}
+use Rattle.refusals.specs.Limits.{mostFormat, mostKinds, mostPieces, largestNumber}
 use Rattle.numerals.specs.Digits.{numberOf}
-use Rattle.numerals.specs.Params.{leadingDigits, largestNumber, paramAt}
+use Rattle.numerals.specs.Params.{leadingDigits, paramAt}
 use Rattle.numerals.specs.declared.NumericParam.{NumericParam}
 use Rattle.numerals.specs.declared.Taken.the-variants.{Param, TooLarge}
 use Rattle.utf8.specs.Utf8.{wellFormed}
@@ -19,9 +20,7 @@ use Rattle.specifiers.specs.declared.Flags.{Flags}
 use Rattle.specifiers.specs.declared.FlagsTaken.the-variants as F
 use Rattle.specifiers.specs.declared.LetterTaken.the-variants as L
 use Rattle.parsing.specs.Pieces.{start, isIndex, pieceAt}
-use Rattle.parsing.specs.Limits.{mostFormat}
-use Rattle.parsing.specs.Listed.{mostPieces}
-use Rattle.parsing.specs.Check.{allKnown, mostKinds}
+use Rattle.parsing.specs.Check.{allKnown}
 use Rattle.parsing.specs.declared.Piece.{Piece}
 use Rattle.parsing.specs.declared.Cursor.{Cursor}
 use Rattle.parsing.specs.declared.Step.the-variants.{Found}

@@ -4,12 +4,12 @@ use mathlib.Core.Bool.{Bool, true, false, _&&_}
 use mathlib.Core.List.{List, [], _∷_}
 use lib.Dec.{leb, ltb}
 use lib.ListN.{length}
+use Rattle.refusals.specs.Limits.{mostFormat, mostKinds}
 use Rattle.writing.specs.Choose.{choose}
 use Rattle.utf8.specs.Utf8.{wellFormed}
 use Rattle.conversions.specs.Kinds.{kindOf}
 use Rattle.conversions.specs.declared.KindByte.{KindByte}
 use Rattle.conversions.specs.declared.KindByte.the-variants.{Known, Unknown}
-use Rattle.parsing.specs.Limits.{mostFormat}
 use Rattle.parsing.specs.Listed.{Placed, placed, ended}
 use Rattle.parsing.specs.declared.Piece.{Piece}
 use Rattle.parsing.specs.declared.Piece.the-variants.{Fixed, Byte, Element as AnElement}
@@ -36,9 +36,6 @@ isKnown Unknown = false
 unfoldable pub allKnown : List ℕ → Bool
 allKnown [] = true
 allKnown (k ∷ ks) = isKnown (kindOf k) && allKnown ks
-
-abbrev pub mostKinds : ℕ
-mostKinds = 64
 
 abbrev pub checkedEnd : Ended → List Placed → Checked
 checkedEnd Finished ps = Accepted (length ps) (largestOf ps)

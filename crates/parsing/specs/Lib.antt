@@ -1,4 +1,3 @@
-pub mod Limits
 pub mod Pieces
 pub mod Listed
 pub mod Check

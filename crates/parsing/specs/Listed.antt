@@ -3,6 +3,7 @@ use Prim.Native.Nat.{ℕ, zero, suc}
 use mathlib.Core.List.{List, [], _∷_}
 use lib.Dec.{ltb}
 use lib.ListN.{length}
+use Rattle.refusals.specs.Limits.{mostPieces}
 use Rattle.writing.specs.Choose.{choose}
 use Rattle.parsing.specs.Pieces.{start, pieceAt}
 use Rattle.parsing.specs.declared.Piece.{Piece}
@@ -11,10 +12,6 @@ use Rattle.parsing.specs.declared.Step.{Step}
 use Rattle.parsing.specs.declared.Step.the-variants.{Found, Refused}
 use Rattle.parsing.specs.declared.Ended.{Ended}
 use Rattle.parsing.specs.declared.Ended.the-variants.{Finished, Stopped}
-
--- 01: "a 513th piece begins" is refused.
-abbrev pub mostPieces : ℕ
-mostPieces = 512
 
 -- A piece that stands in the format from one offset up to another.
 pub record Placed : Type 0 where

@@ -10,7 +10,7 @@ use Rattle.parsing.specs.declared.Piece.the-variants.{Fixed, Byte, Element as A
 use Rattle.elements.specs.Texts.{Shown, Text, elementText, textOf, stopOf}
 
 -- "The unpadded text of a piece is part of the format or part of the row for fixed text, `%%` and text values under %s, and is handed out from there":
--- of a text value, what its precision leaves. Any other piece has none.
+-- of a text value, what its precision leaves, before capitals. A piece that is neither fixed nor of a text has none.
 unfoldable pub unpadded : List ℕ → List ℕ → Piece → List ℕ
 unpadded s row (Fixed begin len) = take len (drop begin s)
 unpadded s row (Byte b) = []

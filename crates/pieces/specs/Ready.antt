@@ -4,7 +4,7 @@ use mathlib.Core.Path.{_≡_}
 use mathlib.Core.Bool.{true}
 use mathlib.Core.List.{List}
 use lib.ListN.{length}
-use Rattle.parsing.specs.Limits.{mostFormat}
+use Rattle.refusals.specs.Limits.{mostFormat}
 use Rattle.parsing.specs.Covers.{PieceIn}
 use Rattle.parsing.specs.declared.Piece.{Piece}
 use Rattle.specifiers.specs.declared.Element.{Element}

@@ -8,14 +8,14 @@ use native.Mathlib.Omega.{arith}
 use lib.Dec.{leb, ltb}
 use lib.ListN.{length}
 use borrow.Author.Tests.{leb-true}
+use Rattle.refusals.specs.Limits.{mostFormat, largestEnd}
 use Rattle.writing.proofs.Choose.{by-test, both}
 use Rattle.utf8.specs.Utf8.{wellFormed}
-use Rattle.parsing.specs.Limits.{mostFormat}
 use Rattle.parsing.specs.Listed.{placed, ended}
 use Rattle.parsing.specs.declared.Ended.{Ended}
 use Rattle.parsing.specs.declared.Ended.the-variants.{Finished, Stopped}
 use Rattle.rows.specs.Row.{kindsOf, isRow}
-use Rattle.printing.specs.Printing.{printedText, Stop, firstStop, unlessStopped, measuredEnd, measured, largestEnd, within, printed}
+use Rattle.printing.specs.Printing.{printedText, Stop, firstStop, unlessStopped, measuredEnd, measured, within, printed}
 use Rattle.printing.specs.Passes.{Room}
 use Rattle.printing.specs.declared.Outcome.{Outcome}
 use Rattle.printing.specs.declared.Outcome.the-variants.{Accepted, Refused}

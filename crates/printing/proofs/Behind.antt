@@ -7,6 +7,7 @@ use native.Mathlib.Nat.{min-eq-left, mod-eq-of-lt}
 use lib.ListN.{length, take, drop, set, length-append, length-drop, take-append-drop}
 use lib.Seq.{take-at, drop-append-add, drop-drop, length-take-le}
 use borrow.Rule.Slice.PartMut.{putMid, midOf}
+use Rattle.refusals.specs.Limits.{largestEnd}
 use Rattle.writing.specs.Laid.{laid}
 use Rattle.writing.specs.Writers.{laidIfRoom}
 use Rattle.writing.proofs.Laid.{laid-more, laid-room, laid-next}
@@ -14,7 +15,7 @@ use Rattle.parsing.specs.declared.Piece.{Piece}
 use Rattle.elements.specs.Sizes.{Sized}
 use Rattle.elements.specs.declared.Size.{Size}
 use Rattle.pieces.specs.PieceTexts.{shownPiece, pieceText}
-use Rattle.printing.specs.Printing.{joined, endsFrom, largestEnd}
+use Rattle.printing.specs.Printing.{joined, endsFrom}
 use Rattle.printing.specs.Passes.{TallyBelow, Added, added, behind, withEnd}
 use Rattle.printing.specs.declared.Tally.{Tally}
 use Rattle.printing.proofs.Joined.{joined-one, ends-one, ends-length}

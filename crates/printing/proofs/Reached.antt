@@ -7,11 +7,12 @@ use native.Mathlib.Omega.{arith}
 use lib.Dec.{ltb}
 use lib.ListN.{length, getD, take, drop, length-drop}
 use borrow.Author.Tests.{ltb-true}
+use Rattle.refusals.specs.Limits.{mostPieces}
 use Rattle.writing.proofs.Choose.{by-test}
 use Rattle.parsing.specs.Pieces.{start, pieceAt}
 use Rattle.parsing.specs.Check.{argumentOf, largestOf}
 use Rattle.parsing.specs.Covers.{PieceIn}
-use Rattle.parsing.specs.Listed.{mostPieces, Placed, andRest, placedFrom, placed, endFrom, ended}
+use Rattle.parsing.specs.Listed.{Placed, andRest, placedFrom, placed, endFrom, ended}
 use Rattle.parsing.specs.declared.Piece.{Piece}
 use Rattle.parsing.specs.declared.Cursor.{Cursor}
 use Rattle.parsing.specs.declared.Step.{Step}

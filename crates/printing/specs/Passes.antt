@@ -5,8 +5,8 @@ use mathlib.Core.Path.{_≡_}
 use mathlib.Core.Bool.{Bool, true, false}
 use mathlib.Core.List.{List, [], _∷_, _++_}
 use lib.ListN.{length, take, set}
+use Rattle.refusals.specs.Limits.{mostFormat, largestEnd}
 use Rattle.writing.specs.Laid.{laid}
-use Rattle.parsing.specs.Limits.{mostFormat}
 use Rattle.parsing.specs.Listed.{Placed, placed, ended}
 use Rattle.parsing.specs.Check.{largestOf}
 use Rattle.parsing.specs.declared.Piece.{Piece}
@@ -26,7 +26,7 @@ use Rattle.printing.specs.declared.Outcome.the-variants.{Accepted, Refus
 use Rattle.printing.specs.declared.Tally.{Tally}
 use Rattle.printing.specs.declared.Tally.the-variants.{Length, Stops}
 use Rattle.printing.specs.declared.Walked.{Walked}
-use Rattle.printing.specs.Printing.{texts, printedText, endsFrom, largestEnd}
+use Rattle.printing.specs.Printing.{texts, printedText, endsFrom}
 
 -- A pass, piece by piece: the length so far, or the first piece that is not printed.
 abbrev pub addSize : ℕ → ℕ → Size → Tally

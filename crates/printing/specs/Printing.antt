@@ -5,10 +5,10 @@ use mathlib.Core.List.{List, [], _∷_, _++_, map}
 use mathlib.Core.Option.{Option, none, some}
 use lib.Dec.{leb, ltb}
 use lib.ListN.{length}
+use Rattle.refusals.specs.Limits.{mostFormat, largestEnd}
 use Rattle.writing.specs.Choose.{choose}
 use Rattle.writing.specs.Laid.{laid}
 use Rattle.utf8.specs.Utf8.{wellFormed}
-use Rattle.parsing.specs.Limits.{mostFormat}
 use Rattle.parsing.specs.Listed.{Placed, placed, ended}
 use Rattle.parsing.specs.declared.Ended.{Ended}
 use Rattle.parsing.specs.declared.Ended.the-variants.{Finished, Stopped}
@@ -69,9 +69,6 @@ measured s row =
     (λ _. Refused 2 0))
 
 -- "text longer than output or than 4,294,967,295, or more pieces than ends": 17, last of all.
-abbrev pub largestEnd : ℕ
-largestEnd = 4294967295
-
 abbrev pub within : ℕ → ℕ → Outcome → Outcome
 within room slots (Accepted n k) = choose (leb n room && leb n largestEnd && leb k slots) (λ _. Accepted n k) (λ _. Refused 17 0)
 within room slots (Refused number place) = Refused number place

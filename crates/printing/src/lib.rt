@@ -223,7 +223,7 @@ fn checked_of(w: Walked) -> Checked
     }
 }
 
-// A format checked against kinds. One pass over each: no byte is read more often than a bounded number of times (the digits of an index twice).
+// A format checked against kinds. No byte of either is read more often than a bounded number of times.
 pub fn check<'a>(fmt: &'a [u8], kinds: &'a [u8]) -> Checked
     ensures { λ r. ⌜ r ≡ checked (now (fmt .entry)) (now (kinds .entry)) ⌝ }
 {

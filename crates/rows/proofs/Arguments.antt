@@ -7,12 +7,13 @@ use native.Mathlib.Omega.{arith}
 use lib.ListN.{length, take, drop, length-take}
 use lib.Seq.{drop-drop}
 use borrow.Author.Tests.{ltb-true, leb-true}
+use Rattle.refusals.specs.Limits.{mostValues}
 use Rattle.writing.proofs.Choose.{by-test, both}
 use Rattle.conversions.specs.Kinds.{kindOf}
 use Rattle.conversions.specs.declared.Kind.the-variants as K
 use Rattle.conversions.specs.declared.KindByte.{KindByte}
 use Rattle.conversions.specs.declared.KindByte.the-variants.{Known, Unknown}
-use Rattle.rows.specs.Row.{mostValues, countOf, textOf, kindByteOf, valueOf, isNull, isTextKind, isText, namedText, entryOf, entryAt}
+use Rattle.rows.specs.Row.{countOf, textOf, kindByteOf, valueOf, isNull, isTextKind, isText, namedText, entryOf, entryAt}
 use Rattle.rows.specs.Arguments.{Argument}
 use Rattle.rows.proofs.Rows.{row-shape, text-length, entry}
 

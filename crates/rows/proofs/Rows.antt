@@ -10,8 +10,9 @@ use lib.ListN.{length, getD, take, drop, length-drop}
 use lib.Seq.{getD-take, getD-drop, length-take-le}
 use borrow.Author.Tests.{leb-true, eqb-true}
 use borrow.Rule.Slice.PartAt.{part-to-end}
+use Rattle.refusals.specs.Limits.{mostValues, mostText}
 use Rattle.numerals.specs.LittleEndian.{littleEndian, wordAt}
-use Rattle.rows.specs.Row.{mostValues, mostText, countOf, textSize, kindsOf, textOf, kindByteOf, valueOf, entryAt, entriesFrom, isRow}
+use Rattle.rows.specs.Row.{countOf, textSize, kindsOf, textOf, kindByteOf, valueOf, entryAt, entriesFrom, isRow}
 use Rattle.rows.specs.Arguments.{rowOf}
 use Rattle.rows.specs.declared.RowRead.{RowRead}
 use Rattle.rows.specs.declared.RowRead.the-variants.{Row, Broken}

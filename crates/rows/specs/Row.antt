@@ -5,6 +5,7 @@ use mathlib.Core.Bool.{Bool, true, false, _&&_, _||_}
 use mathlib.Core.List.{List, [], _∷_}
 use lib.Dec.{leb, ltb, eqb}
 use lib.ListN.{length, getD, take, drop}
+use Rattle.refusals.specs.Limits.{mostValues, mostText}
 use Rattle.writing.specs.Choose.{choose}
 use Rattle.numerals.specs.LittleEndian.{wordAt}
 use Rattle.utf8.specs.Utf8.{wellFormed}
@@ -13,13 +14,6 @@ use Rattle.conversions.specs.declared.Kind.{Kind}
 use Rattle.conversions.specs.declared.Kind.the-variants as K
 use Rattle.conversions.specs.declared.KindByte.{KindByte}
 use Rattle.conversions.specs.declared.KindByte.the-variants.{Known, Unknown}
-
--- The largest n and t.
-abbrev pub mostValues : ℕ
-mostValues = 64
-
-abbrev pub mostText : ℕ
-mostText = 32768
 
 -- n and t
 abbrev pub countOf : List ℕ → ℕ

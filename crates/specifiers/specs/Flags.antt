@@ -52,11 +52,12 @@ flagOf f b =
     (("#", Set (withAlt f)) ∷ ("0", unlessSet (f .left) 8 (withZero f)) ∷ ("-", Set (withLeft f)) ∷ (" ", unlessSet (f .plus) 9 (withSpace f))
     ∷ ("+", unlessSet (f .space) 9 (withPlus f)) ∷ (",", Set (withComma f)) ∷ ("(", Set (withBracket f)) ∷ []) b
 
--- The flags that a text begins with, from the place i on, after the flags f; and the place behind them.
+-- Where flags stop: their end, or the clash.
 abbrev pub stoppedAt : FlagStop → ℕ → Flags → FlagsTaken
 stoppedAt NoFlag i f = Read f i
 stoppedAt (Clash number) i f = Refused number
 
+-- The flags that a text begins with, from the place i on, after the flags f; and the place behind them.
 abbrev pub afterFlag : FlagStep → (Flags → FlagsTaken) → ℕ → Flags → FlagsTaken
 afterFlag (Set g) rest i f = rest g
 afterFlag (Stops stop) rest i f = stoppedAt stop i f

@@ -1,4 +1,4 @@
--- Steps of the code that no contract of an entry speaks of: a refusal handed upward, and the quick test for a letter.
+-- Steps of the code that no contract of an entry speaks of: where flags stop, a refusal handed upward, and the quick test for a letter.
 use Prim.Native.Nat.{ℕ}
 use Prim.Native.Char.{code}
 use mathlib.Core.Path.{_≡_}

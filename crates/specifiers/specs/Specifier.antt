@@ -1,4 +1,4 @@
--- An element behind its argument index. Java: `%[argument$][flags][width][.precision]conversion`.
+-- An element behind its argument index. Java, "Format String Syntax": index, flags, width, precision and conversion, in this order.
 use Prim.Native.Nat.{ℕ, _+_}
 use Prim.Native.Char.{code}
 use mathlib.Core.Bool.{Bool, true, false, _||_}

@@ -3,7 +3,7 @@
 use Prim.Native.Nat.{_≤_, _-_}
 use lib.ListN.{length}
 use native.Mathlib.Omega.{arith}
-use Rattle.numerals.specs.Params.{largestNumber}
+use Rattle.refusals.specs.Limits.{largestNumber}
 use Rattle.numerals.proofs.Params.{ReadTo, read-none, end-of-text, below-digit, above-digit, read-end, read-digit, read-large}
 use borrow.Author.Needs.{needs}
 use Rattle.numerals.proofs.take_number.Statement.{statement}

@@ -4,7 +4,7 @@ use mathlib.Core.Path.{subst, ap, _∙_}
 use native.Mathlib.Nat.{add-sub-cancel-left}
 use native.Mathlib.Omega.{arith}
 use lib.ListN.{length, length-take}
-use Rattle.parsing.specs.Limits.{mostFormat}
+use Rattle.refusals.specs.Limits.{mostFormat}
 use Rattle.strings.specs.Cut.{cutTo}
 use Rattle.strings.proofs.Cuts.{cut-shorter}
 use Rattle.pieces.specs.PieceTexts.{unpadded}

@@ -4,8 +4,9 @@ use mathlib.Core.Bool.{false, _&&_}
 use lib.Dec.{leb}
 use lib.ListN.{length}
 use borrow.Author.Tests.{lt-ltb, le-ltb, le-leb, lt-leb, not-true, not-false}
+use Rattle.refusals.specs.Limits.{mostKinds}
 use Rattle.writing.specs.Choose.{choose}
-use Rattle.parsing.specs.Check.{mostKinds, allKnown, checkedEnd, checked}
+use Rattle.parsing.specs.Check.{allKnown, checkedEnd, checked}
 use Rattle.parsing.specs.Listed.{placed, ended}
 use Rattle.parsing.specs.declared.Checked.the-variants.{Refused}
 use Rattle.printing.proofs.Outcomes.{walk-checked}

@@ -5,7 +5,7 @@ use mathlib.Core.Bool.{Bool, true}
 use mathlib.Core.Logic.{⊎-elim}
 use lib.ListN.{length}
 use native.Mathlib.Omega.{arith}
-use Rattle.parsing.specs.Listed.{mostPieces}
+use Rattle.refusals.specs.Limits.{mostPieces}
 use Rattle.parsing.specs.Pieces.{pieceAt}
 use Rattle.parsing.specs.declared.Step.{Step}
 use Rattle.parsing.specs.declared.Step.the-variants.{Found}

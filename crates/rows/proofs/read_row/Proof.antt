@@ -5,9 +5,10 @@ use mathlib.Core.Bool.{_&&_}
 use lib.Dec.{leb, eqb}
 use lib.ListN.{length}
 use borrow.Author.Tests.{le-leb, lt-leb, eq-eqb, ne-eqb}
+use Rattle.refusals.specs.Limits.{mostValues, mostText}
 use Rattle.writing.specs.Choose.{choose}
 use Rattle.rows.specs.declared.RowRead.the-variants.{Row, Broken}
-use Rattle.rows.specs.Row.{mostValues, mostText, entriesFrom, isRow}
+use Rattle.rows.specs.Row.{entriesFrom, isRow}
 use Rattle.rows.specs.Arguments.{rowOf}
 use borrow.Author.Needs.{needs}
 use Rattle.rows.proofs.read_row.Statement.{statement}

@@ -1,4 +1,4 @@
--- `vectors::prints::run_record` meets its contract: the facts of the record and of its claim, read off the answers of `record_at` and `claim_at`. Assumes nothing.
+-- `vectors::prints::run_record` meets its contract: the facts of the record and its claim, by the answers of `record_at` and `claim_at`. Assumes nothing.
 use Prim.Native.Nat.{ℕ, _≤_, _<_}
 use mathlib.Core.List.{List}
 use lib.ListN.{length}
