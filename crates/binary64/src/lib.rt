@@ -9,7 +9,8 @@ ghost use lib.ListN.{length};
 ghost use Rattle.writing.specs.Laid.{laid};
 ghost use Rattle.binary64.specs.Fields.{negative, exponentField, fractionField, categoryOf, scaledBits};
 ghost use Rattle.binary64.specs.Rounding.{nearestTo, keptDigits};
-ghost use Rattle.binary64.specs.HexFloat.{shortest, rounded, normalOf, subnormalForm, subnormalOf, hexFloatOf, leadingLetter, exponentLetter, exponentText, hexFloatText};
+ghost use Rattle.binary64.specs.HexFloat.{shortest, rounded, normalOf, subnormalForm, subnormalOf, hexFloatOf};
+ghost use Rattle.binary64.specs.HexFloat.{leadingLetter, exponentLetter, exponentText, hexFloatText};
 
 // The fields of a bit pattern: sign, biased exponent, fraction.
 pub struct FloatParts {

@@ -4,7 +4,8 @@
 ghost use mathlib.Core.Path.{_≡_};
 ghost use Prim.Native.Nat.{_<_, _≤_};
 ghost use Rattle.conversions.specs.Letters.{timeOf, conversionOf, inSmall, inCapitals, classOf, isUpper, familyOf};
-ghost use Rattle.conversions.specs.Kinds.{kindOf, isInteger, isFloat, isNumber, isBoolean, fits, fitsKind, integerForm, stringForm, onlyIf, formOf, printsAs};
+ghost use Rattle.conversions.specs.Kinds.{kindOf, isInteger, isFloat, isNumber, isBoolean, fits, fitsKind};
+ghost use Rattle.conversions.specs.Kinds.{integerForm, stringForm, onlyIf, formOf, printsAs};
 
 // The component of a date that a letter behind t or T names.
 pub enum TimeFormat {

@@ -45,7 +45,8 @@ digitsText n = choose (n .grouped) (λ _. grouped (decimal (n .value))) (λ _. n
 
 -- The numeral of %d, of %x and %o, and that of an integer of w bits with the pattern v in each base.
 abbrev pub signedNumeral : Flags → ℕ → Numeral
-signedNumeral f v = record { mark = integerMark f (isNegative (intOf 64 v)); prefix = NoPrefix; value = natAbs (intOf 64 v); base = 10; upper = false; grouped = f .grouping }
+signedNumeral f v =
+    record { mark = integerMark f (isNegative (intOf 64 v)); prefix = NoPrefix; value = natAbs (intOf 64 v); base = 10; upper = false; grouped = f .grouping }
 
 abbrev pub unsignedNumeral : Prefix → ℕ → Bool → ℕ → Numeral
 unsignedNumeral p base upper n = record { mark = NoMark; prefix = p; value = n; base = base; upper = upper; grouped = false }

@@ -22,7 +22,8 @@ ghost use Rattle.numerals.specs.Bases.{IsBase};
 ghost use Rattle.numerals.specs.Integers.{intOf, isNegative};
 ghost use Rattle.binary64.specs.Fields.{categoryOf};
 ghost use Rattle.conversions.specs.declared.Form.the-variants as F;
-ghost use Rattle.elements.specs.Texts.{widthOf, side, fill, paddedText, paddedNumber, formatString, signMark, integerMark, ifAlternate, hexPrefix, signedText, charText, floatMark, finiteText, floatText, integerText, valueText, elementText, textOf};
+ghost use Rattle.elements.specs.Texts.{widthOf, side, fill, paddedText, paddedNumber, formatString, signMark, integerMark, ifAlternate};
+ghost use Rattle.elements.specs.Texts.{hexPrefix, signedText, charText, floatMark, finiteText, floatText, integerText, valueText, elementText, textOf};
 ghost use Rattle.elements.specs.Sizes.{Sized, digitsText, signedNumeral, unsignedNumeral, numeralOf};
 
 // The length of a text, or the number that stops it.

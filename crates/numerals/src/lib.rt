@@ -159,7 +159,8 @@ pub fn is_negative(x: u64) -> bool
     0x8000_0000_0000_0000 <= x
 }
 
-// The absolute value of the 64-bit integer with the two's complement bits x. 01: "the magnitude of the least 64-bit integer is kept, though its negation wraps".
+// The absolute value of the 64-bit integer with the two's complement bits x. 01: "the magnitude of the least 64-bit integer is kept, though its
+// negation wraps".
 pub fn magnitude(x: u64) -> u64
     ensures { λ r. ⌜ r ≡ natAbs (intOf 64 x) ⌝ }
 {

@@ -6,7 +6,6 @@ use specifiers::Element;
 ghost use mathlib.Core.Path.{_≡_};
 ghost use Prim.Native.Nat.{_^_, _<_};
 ghost use lib.ListN.{length};
-ghost use Rattle.parsing.specs.declared.Piece.the-variants as P;
 ghost use Rattle.elements.specs.Sizes.{Sized};
 ghost use Rattle.rows.specs.Arguments.{Argument};
 ghost use Rattle.pieces.specs.PieceTexts.{unpadded, shownPiece};
