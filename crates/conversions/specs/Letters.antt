@@ -1,7 +1,6 @@
 -- The letters of a format. 01: "Letter: b B h H s S c C d o x X e E f g G a A, or t or T and one of the 30 letters of `TimeFormat`, with `h` read as `b`."
 use Prim.Native.Nat.{ℕ}
 use Prim.Native.Char.{Char, code}
-use mathlib.Core.Bool.{Bool, true, false}
 use mathlib.Core.List.{List, [], _∷_}
 use lib.Dec.{eqb}
 use Rattle.writing.specs.Choose.{choose}
@@ -9,9 +8,6 @@ use Rattle.conversions.specs.declared.TimeFormat.{TimeFormat}
 use Rattle.conversions.specs.declared.TimeFormat.the-variants as T
 use Rattle.conversions.specs.declared.ConversionType.{ConversionType}
 use Rattle.conversions.specs.declared.ConversionType.the-variants as C
-use Rattle.conversions.specs.declared.Class.{Class}
-use Rattle.conversions.specs.declared.Family.{Family}
-use Rattle.conversions.specs.declared.Family.the-variants as F
 use Rattle.conversions.specs.declared.Radix.the-variants.{Decimal, Octal, Hexadecimal}
 use Rattle.conversions.specs.declared.TimeLetter.{TimeLetter}
 use Rattle.conversions.specs.declared.TimeLetter.the-variants.{Component, NoComponent}
@@ -34,50 +30,20 @@ timeLetters =
 unfoldable pub timeOf : ℕ → TimeLetter
 timeOf b = lookup code Component NoComponent timeLetters b
 
--- Java, "Conversions": the letters but for t and T.
-abbrev pub letters : List (Char × ConversionType)
-letters =
-    ("b", C.BooleanLower) ∷ ("B", C.BooleanUpper) ∷ ("h", C.HexHashLower) ∷ ("H", C.HexHashUpper) ∷ ("s", C.StringLower) ∷ ("S", C.StringUpper) ∷
-    ("c", C.CharLower) ∷ ("C", C.CharUpper) ∷ ("d", C.DecInt) ∷ ("o", C.OctInt) ∷ ("x", C.HexIntLower) ∷ ("X", C.HexIntUpper) ∷
-    ("e", C.SciFloatLower) ∷ ("E", C.SciFloatUpper) ∷ ("f", C.DecFloatLower) ∷ ("g", C.CompactFloatLower) ∷ ("G", C.CompactFloatUpper) ∷
-    ("a", C.HexFloatLower) ∷ ("A", C.HexFloatUpper) ∷ []
+-- Java, "Conversions": the letters but for t and T. e, f and g, which are not printed, are one conversion.
+abbrev pub smallLetters : List (Char × ConversionType)
+smallLetters =
+    ("b", C.Boolean) ∷ ("h", C.HexHash) ∷ ("s", C.String) ∷ ("c", C.Char) ∷ ("d", C.Integer Decimal) ∷ ("o", C.Integer Octal) ∷
+    ("x", C.Integer Hexadecimal) ∷ ("e", C.DecimalFloat) ∷ ("f", C.DecimalFloat) ∷ ("g", C.DecimalFloat) ∷ ("a", C.HexFloat) ∷ []
 
-unfoldable pub conversionOf : ℕ → Letter
-conversionOf b = lookup code Conversion NoConversion letters b
+-- Java, "Conversions": a capital letter prints as its small letter does, in capitals.
+abbrev pub capitalLetters : List (Char × ConversionType)
+capitalLetters =
+    ("B", C.Boolean) ∷ ("H", C.HexHash) ∷ ("S", C.String) ∷ ("C", C.Char) ∷ ("X", C.Integer Hexadecimal) ∷ ("E", C.DecimalFloat) ∷
+    ("G", C.DecimalFloat) ∷ ("A", C.HexFloat) ∷ []
 
--- The letters that are judged and printed alike (01, "Fit", "Capitals likewise"), and whether in capitals (Java, "Conversions": a capital letter prints as
--- its small letter does, in capitals).
-abbrev pub inSmall : Family → Class
-inSmall f = record { family = f; upper = false }
+unfoldable pub smallOf : ℕ → Letter
+smallOf b = lookup code Conversion NoConversion smallLetters b
 
-abbrev pub inCapitals : Family → Class
-inCapitals f = record { family = f; upper = true }
-
-abbrev pub classOf : ConversionType → Class
-classOf C.BooleanLower = inSmall F.Boolean
-classOf C.BooleanUpper = inCapitals F.Boolean
-classOf C.HexHashLower = inSmall F.Hash
-classOf C.HexHashUpper = inCapitals F.Hash
-classOf C.StringLower = inSmall F.Text
-classOf C.StringUpper = inCapitals F.Text
-classOf C.CharLower = inSmall F.Char
-classOf C.CharUpper = inCapitals F.Char
-classOf C.DecInt = inSmall (F.Numeral Decimal)
-classOf C.OctInt = inSmall (F.Numeral Octal)
-classOf C.HexIntLower = inSmall (F.Numeral Hexadecimal)
-classOf C.HexIntUpper = inCapitals (F.Numeral Hexadecimal)
-classOf C.SciFloatLower = inSmall F.DecimalFloat
-classOf C.SciFloatUpper = inCapitals F.DecimalFloat
-classOf C.DecFloatLower = inSmall F.DecimalFloat
-classOf C.CompactFloatLower = inSmall F.DecimalFloat
-classOf C.CompactFloatUpper = inCapitals F.DecimalFloat
-classOf C.HexFloatLower = inSmall F.HexFloat
-classOf C.HexFloatUpper = inCapitals F.HexFloat
-classOf (C.TimeLower t) = inSmall F.Time
-classOf (C.TimeUpper t) = inCapitals F.Time
-
-abbrev pub familyOf : ConversionType → Family
-familyOf c = classOf c .family
-
-abbrev pub isUpper : ConversionType → Bool
-isUpper c = classOf c .upper
+unfoldable pub capitalOf : ℕ → Letter
+capitalOf b = lookup code Conversion NoConversion capitalLetters b

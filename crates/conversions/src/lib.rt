@@ -3,9 +3,10 @@
 // try_from, ConversionType::validate, is_upper and the letters of take_conversion_specifier.
 ghost use mathlib.Core.Path.{_≡_};
 ghost use Prim.Native.Nat.{_<_, _≤_};
-ghost use Rattle.conversions.specs.Letters.{timeOf, conversionOf, inSmall, inCapitals, classOf, isUpper, familyOf};
-ghost use Rattle.conversions.specs.Kinds.{kindOf, isInteger, isFloat, isNumber, isBoolean, fits, fitsKind};
-ghost use Rattle.conversions.specs.Kinds.{integerForm, stringForm, onlyIf, formOf, printsAs};
+ghost use Rattle.conversions.specs.Letters.{timeOf, smallOf, capitalOf};
+ghost use Rattle.conversions.specs.Kinds.{kindOf, isInteger, fits, fitsKind, integerForm, onlyIf, formOf, printsAs};
+ghost use Rattle.conversions.specs.declared.IntegerForm.the-variants.{Digits};
+ghost use Rattle.conversions.specs.declared.Form.the-variants.{Text, NotPrinted};
 
 // The component of a date that a letter behind t or T names.
 pub enum TimeFormat {
@@ -41,47 +42,16 @@ pub enum TimeFormat {
     CLower,
 }
 
-// A conversion, by its letter.
+// What a letter prints; its capital prints the same in capitals. The original has a variant for each letter.
 pub enum ConversionType {
-    BooleanLower,
-    BooleanUpper,
-    HexHashLower,
-    HexHashUpper,
-    StringLower,
-    StringUpper,
-    CharLower,
-    CharUpper,
-    DecInt,
-    OctInt,
-    HexIntLower,
-    HexIntUpper,
-    SciFloatLower,
-    SciFloatUpper,
-    DecFloatLower,
-    CompactFloatLower,
-    CompactFloatUpper,
-    HexFloatLower,
-    HexFloatUpper,
-    TimeLower(TimeFormat),
-    TimeUpper(TimeFormat),
-}
-
-// The letters that fit the same kinds and print alike.
-pub enum Family {
     Boolean,
-    Hash,
-    Text,
+    HexHash,
+    String,
     Char,
-    Numeral(Radix),
-    HexFloat,
+    Integer(Radix),
     DecimalFloat,
-    Time,
-}
-
-// The family of a letter, and whether it prints capitals.
-pub struct Class {
-    pub family: Family,
-    pub upper: bool,
+    HexFloat,
+    Time(TimeFormat),
 }
 
 // A kind of value: a signed integer with its width in bits, a binary64 float, a Boolean, a text.
@@ -170,94 +140,41 @@ pub fn time_of(b: u8) -> TimeLetter
     }
 }
 
-// The conversion that a byte names, but for t and T, which a second letter completes.
-pub fn conversion_of(b: u8) -> Letter
-    ensures { λ r. ⌜ r ≡ conversionOf b ⌝ }
+// The conversion that a small letter names, but for t, which a second letter completes.
+pub fn small_letter(b: u8) -> Letter
+    ensures { λ r. ⌜ r ≡ smallOf b ⌝ }
 {
     match b {
-        b'b' => Letter::Conversion(ConversionType::BooleanLower),
-        b'B' => Letter::Conversion(ConversionType::BooleanUpper),
-        b'h' => Letter::Conversion(ConversionType::HexHashLower),
-        b'H' => Letter::Conversion(ConversionType::HexHashUpper),
-        b's' => Letter::Conversion(ConversionType::StringLower),
-        b'S' => Letter::Conversion(ConversionType::StringUpper),
-        b'c' => Letter::Conversion(ConversionType::CharLower),
-        b'C' => Letter::Conversion(ConversionType::CharUpper),
-        b'd' => Letter::Conversion(ConversionType::DecInt),
-        b'o' => Letter::Conversion(ConversionType::OctInt),
-        b'x' => Letter::Conversion(ConversionType::HexIntLower),
-        b'X' => Letter::Conversion(ConversionType::HexIntUpper),
-        b'e' => Letter::Conversion(ConversionType::SciFloatLower),
-        b'E' => Letter::Conversion(ConversionType::SciFloatUpper),
-        b'f' => Letter::Conversion(ConversionType::DecFloatLower),
-        b'g' => Letter::Conversion(ConversionType::CompactFloatLower),
-        b'G' => Letter::Conversion(ConversionType::CompactFloatUpper),
-        b'a' => Letter::Conversion(ConversionType::HexFloatLower),
-        b'A' => Letter::Conversion(ConversionType::HexFloatUpper),
+        b'b' => Letter::Conversion(ConversionType::Boolean),
+        b'h' => Letter::Conversion(ConversionType::HexHash),
+        b's' => Letter::Conversion(ConversionType::String),
+        b'c' => Letter::Conversion(ConversionType::Char),
+        b'd' => Letter::Conversion(ConversionType::Integer(Radix::Decimal)),
+        b'o' => Letter::Conversion(ConversionType::Integer(Radix::Octal)),
+        b'x' => Letter::Conversion(ConversionType::Integer(Radix::Hexadecimal)),
+        b'e' => Letter::Conversion(ConversionType::DecimalFloat),
+        b'f' => Letter::Conversion(ConversionType::DecimalFloat),
+        b'g' => Letter::Conversion(ConversionType::DecimalFloat),
+        b'a' => Letter::Conversion(ConversionType::HexFloat),
         _ => Letter::NoConversion,
     }
 }
 
-fn in_small(family: Family) -> Class
-    ensures { λ r. ⌜ r ≡ inSmall family ⌝ }
+// The conversion that a capital names, but for T.
+pub fn capital_letter(b: u8) -> Letter
+    ensures { λ r. ⌜ r ≡ capitalOf b ⌝ }
 {
-    Class {
-        family: family,
-        upper: false,
+    match b {
+        b'B' => Letter::Conversion(ConversionType::Boolean),
+        b'H' => Letter::Conversion(ConversionType::HexHash),
+        b'S' => Letter::Conversion(ConversionType::String),
+        b'C' => Letter::Conversion(ConversionType::Char),
+        b'X' => Letter::Conversion(ConversionType::Integer(Radix::Hexadecimal)),
+        b'E' => Letter::Conversion(ConversionType::DecimalFloat),
+        b'G' => Letter::Conversion(ConversionType::DecimalFloat),
+        b'A' => Letter::Conversion(ConversionType::HexFloat),
+        _ => Letter::NoConversion,
     }
-}
-
-fn in_capitals(family: Family) -> Class
-    ensures { λ r. ⌜ r ≡ inCapitals family ⌝ }
-{
-    Class {
-        family: family,
-        upper: true,
-    }
-}
-
-// The class of a conversion.
-fn class_of(conversion: ConversionType) -> Class
-    ensures { λ r. ⌜ r ≡ classOf conversion ⌝ }
-{
-    match conversion {
-        ConversionType::BooleanLower => in_small(Family::Boolean),
-        ConversionType::BooleanUpper => in_capitals(Family::Boolean),
-        ConversionType::HexHashLower => in_small(Family::Hash),
-        ConversionType::HexHashUpper => in_capitals(Family::Hash),
-        ConversionType::StringLower => in_small(Family::Text),
-        ConversionType::StringUpper => in_capitals(Family::Text),
-        ConversionType::CharLower => in_small(Family::Char),
-        ConversionType::CharUpper => in_capitals(Family::Char),
-        ConversionType::DecInt => in_small(Family::Numeral(Radix::Decimal)),
-        ConversionType::OctInt => in_small(Family::Numeral(Radix::Octal)),
-        ConversionType::HexIntLower => in_small(Family::Numeral(Radix::Hexadecimal)),
-        ConversionType::HexIntUpper => in_capitals(Family::Numeral(Radix::Hexadecimal)),
-        ConversionType::SciFloatLower => in_small(Family::DecimalFloat),
-        ConversionType::SciFloatUpper => in_capitals(Family::DecimalFloat),
-        ConversionType::DecFloatLower => in_small(Family::DecimalFloat),
-        ConversionType::CompactFloatLower => in_small(Family::DecimalFloat),
-        ConversionType::CompactFloatUpper => in_capitals(Family::DecimalFloat),
-        ConversionType::HexFloatLower => in_small(Family::HexFloat),
-        ConversionType::HexFloatUpper => in_capitals(Family::HexFloat),
-        ConversionType::TimeLower(_) => in_small(Family::Time),
-        ConversionType::TimeUpper(_) => in_capitals(Family::Time),
-    }
-}
-
-// Whether a conversion prints capitals.
-pub fn is_upper(conversion: ConversionType) -> bool
-    ensures { λ r. ⌜ r ≡ isUpper conversion ⌝ }
-{
-    let c = class_of(conversion);
-    c.upper
-}
-
-fn family_of(conversion: ConversionType) -> Family
-    ensures { λ r. ⌜ r ≡ familyOf conversion ⌝ }
-{
-    let c = class_of(conversion);
-    c.family
 }
 
 // The kind that a byte without its null mark names.
@@ -276,61 +193,40 @@ pub fn kind_of(b: u8) -> KindByte
     }
 }
 
-fn is_integer(kind: Kind) -> bool
+fn is_integer(kind: u8) -> bool
     ensures { λ r. ⌜ r ≡ isInteger kind ⌝ }
 {
     match kind {
-        Kind::Signed(_) => true,
-        Kind::Float64 => false,
-        Kind::Boolean => false,
-        Kind::Text => false,
+        1 => true,
+        2 => true,
+        3 => true,
+        4 => true,
+        _ => false,
     }
 }
 
-fn is_float(kind: Kind) -> bool
-    ensures { λ r. ⌜ r ≡ isFloat kind ⌝ }
-{
-    match kind {
-        Kind::Signed(_) => false,
-        Kind::Float64 => true,
-        Kind::Boolean => false,
-        Kind::Text => false,
-    }
-}
-
-fn is_boolean(kind: Kind) -> bool
-    ensures { λ r. ⌜ r ≡ isBoolean kind ⌝ }
-{
-    match kind {
-        Kind::Signed(_) => false,
-        Kind::Float64 => false,
-        Kind::Boolean => true,
-        Kind::Text => false,
-    }
-}
-
-fn is_number(kind: Kind) -> bool
-    ensures { λ r. ⌜ r ≡ isNumber kind ⌝ }
+fn is_number(kind: u8) -> bool
+    ensures { λ r. ⌜ r ≡ fits ConversionType.HexFloat kind ⌝ }
 {
     if is_integer(kind) {
         return true;
     }
-    is_float(kind)
+    kind == 5
 }
 
-// Whether the letters of a family fit a kind.
-fn family_fits(family: Family, kind: Kind) -> bool
-    ensures { λ r. ⌜ r ≡ fits family kind ⌝ }
+// Whether a conversion fits a kind.
+fn fits_kind(conversion: ConversionType, kind: u8) -> bool
+    ensures { λ r. ⌜ r ≡ fits conversion kind ⌝ }
 {
-    match family {
-        Family::Boolean => is_boolean(kind),
-        Family::Hash => true,
-        Family::Text => true,
-        Family::Char => is_integer(kind),
-        Family::Numeral(_) => is_integer(kind),
-        Family::HexFloat => is_number(kind),
-        Family::DecimalFloat => is_number(kind),
-        Family::Time => false,
+    match conversion {
+        ConversionType::Boolean => kind == 6,
+        ConversionType::HexHash => true,
+        ConversionType::String => true,
+        ConversionType::Char => is_integer(kind),
+        ConversionType::Integer(_) => is_integer(kind),
+        ConversionType::DecimalFloat => is_number(kind),
+        ConversionType::HexFloat => is_number(kind),
+        ConversionType::Time(_) => false,
     }
 }
 
@@ -338,40 +234,42 @@ fn family_fits(family: Family, kind: Kind) -> bool
 pub fn validate(conversion: ConversionType, kind: u8) -> bool
     ensures { λ r. ⌜ r ≡ fitsKind conversion kind ⌝ }
 {
-    let KindByte::Known(k) = kind_of(kind % 128) else {
-        return false;
-    };
-    family_fits(family_of(conversion), k)
+    fits_kind(conversion, kind % 128)
 }
 
 // An integer in this form; no other kind has it.
-fn integer_form(form: IntegerForm, kind: Kind) -> Form
-    ensures { λ r. ⌜ r ≡ integerForm form kind ⌝ }
+fn integer_form(form: IntegerForm, kind: u8) -> Form
+    ensures { λ r. ⌜ r ≡ integerForm form kind NotPrinted ⌝ }
 {
     match kind {
-        Kind::Signed(width) => Form::Integer {
+        1 => Form::Integer {
             form: form,
-            width: width,
+            width: 8,
         },
-        Kind::Float64 => Form::NotPrinted,
-        Kind::Boolean => Form::NotPrinted,
-        Kind::Text => Form::NotPrinted,
+        2 => Form::Integer {
+            form: form,
+            width: 16,
+        },
+        3 => Form::Integer {
+            form: form,
+            width: 32,
+        },
+        4 => Form::Integer {
+            form: form,
+            width: 64,
+        },
+        _ => Form::NotPrinted,
     }
 }
 
 // %s: an integer's digits, or a text.
-fn string_form(kind: Kind) -> Form
-    ensures { λ r. ⌜ r ≡ stringForm kind ⌝ }
+fn string_form(kind: u8) -> Form
+    ensures { λ r. ⌜ r ≡ formOf ConversionType.String kind ⌝ }
 {
-    match kind {
-        Kind::Signed(width) => Form::Integer {
-            form: IntegerForm::Digits,
-            width: width,
-        },
-        Kind::Float64 => Form::NotPrinted,
-        Kind::Boolean => Form::NotPrinted,
-        Kind::Text => Form::Text,
+    if kind == 7 {
+        return Form::Text;
     }
+    integer_form(IntegerForm::Digits, kind)
 }
 
 fn only_if(test: bool, form: Form) -> Form
@@ -383,19 +281,19 @@ fn only_if(test: bool, form: Form) -> Form
     Form::NotPrinted
 }
 
-// How the letters of a family print a kind.
-fn family_form(family: Family, kind: Kind) -> Form
-    ensures { λ r. ⌜ r ≡ formOf family kind ⌝ }
+// How a conversion prints a kind.
+fn kind_form(conversion: ConversionType, kind: u8) -> Form
+    ensures { λ r. ⌜ r ≡ formOf conversion kind ⌝ }
 {
-    match family {
-        Family::Boolean => only_if(is_boolean(kind), Form::Boolean),
-        Family::Hash => Form::NotPrinted,
-        Family::Text => string_form(kind),
-        Family::Char => integer_form(IntegerForm::Scalar, kind),
-        Family::Numeral(radix) => integer_form(IntegerForm::Numeral(radix), kind),
-        Family::HexFloat => only_if(is_float(kind), Form::HexFloat),
-        Family::DecimalFloat => Form::NotPrinted,
-        Family::Time => Form::NotPrinted,
+    match conversion {
+        ConversionType::Boolean => only_if(kind == 6, Form::Boolean),
+        ConversionType::HexHash => Form::NotPrinted,
+        ConversionType::String => string_form(kind),
+        ConversionType::Char => integer_form(IntegerForm::Scalar, kind),
+        ConversionType::Integer(radix) => integer_form(IntegerForm::Numeral(radix), kind),
+        ConversionType::DecimalFloat => Form::NotPrinted,
+        ConversionType::HexFloat => only_if(kind == 5, Form::HexFloat),
+        ConversionType::Time(_) => Form::NotPrinted,
     }
 }
 
@@ -403,8 +301,5 @@ fn family_form(family: Family, kind: Kind) -> Form
 pub fn form_of(conversion: ConversionType, kind: u8) -> Form
     ensures { λ r. ⌜ r ≡ printsAs conversion kind ⌝ }
 {
-    let KindByte::Known(k) = kind_of(kind % 128) else {
-        return Form::NotPrinted;
-    };
-    family_form(family_of(conversion), k)
+    kind_form(conversion, kind % 128)
 }

@@ -15,17 +15,15 @@ use Rattle.numerals.specs.declared.Number.the-variants as N
 use Rattle.numerals.specs.declared.Taken.{Taken}
 use Rattle.numerals.specs.declared.Taken.the-variants.{Param, TooLarge}
 use Rattle.numerals.proofs.Params.{NumberIn, number-in}
-use Rattle.conversions.specs.Letters.{timeOf, conversionOf}
+use Rattle.conversions.specs.Letters.{timeOf, smallOf, capitalOf}
 use Rattle.conversions.specs.Kinds.{fitsKind}
-use Rattle.conversions.specs.declared.TimeFormat.{TimeFormat}
-use Rattle.conversions.specs.declared.ConversionType.{ConversionType}
 use Rattle.conversions.specs.declared.Letter.{Letter}
 use Rattle.conversions.specs.declared.Letter.the-variants.{Conversion, NoConversion}
 use Rattle.conversions.specs.declared.TimeLetter.{TimeLetter}
 use Rattle.conversions.specs.declared.TimeLetter.the-variants.{Component, NoComponent}
 use Rattle.specifiers.specs.Flags.{noFlags, flagOf, afterFlag, flagsFrom}
 use Rattle.specifiers.specs.Specifier.{beginsWith, precisionAt, afterPrecision, afterWidth, afterFlags, partsAt}
-use Rattle.specifiers.specs.Specifier.{timeCase, oneLetter, timeLetter, secondLetter, letterFrom, letterAt}
+use Rattle.specifiers.specs.Specifier.{capitalLetter, oneLetter, timeLetter, secondLetter, letterFrom, letterAt}
 use Rattle.specifiers.specs.Specifier.{afterLetter, afterParts, specifierAt}
 use Rattle.specifiers.specs.declared.Flags.{Flags}
 use Rattle.specifiers.specs.declared.FlagStep.{FlagStep}
@@ -88,26 +86,30 @@ flags-on (b ∷ l) at f = go (flagOf f b) (λ g. flags-on l (at + 1) g)
 
 -- A letter ends behind the place where it begins, inside the format.
 abbrev LetterIn : ℕ → ℕ → LetterTaken → Type 0
-LetterIn n at (L.Read c next) = (at < next) × (next ≤ n)
+LetterIn n at (L.Read c u next) = (at < next) × (next ≤ n)
 LetterIn n at (L.Refused number) = Unit {0}
 
 letter-from : (l : List ℕ) (at n : ℕ) → at + length l ≤ n → LetterIn n at (letterFrom l at)
 letter-from [] at n h = tt
 letter-from (b ∷ l) at n h =
-    by-test (LetterIn n at) (eqb b (code "t")) _ _ (λ _. second (timeCase false) l h)
-    (λ _. by-test (LetterIn n at) (eqb b (code "T")) _ _ (λ _. second (timeCase true) l h) (λ _. one (conversionOf b) h))
+    by-test (LetterIn n at) (eqb b (code "t")) _ _ (λ _. second false l h)
+    (λ _. by-test (LetterIn n at) (eqb b (code "T")) _ _ (λ _. second true l h) (λ _. one (smallOf b) (capitalOf b) h))
   where
-    one : (x : Letter) → at + length (b ∷ l) ≤ n → LetterIn n at (oneLetter x at)
-    one (Conversion c) k = (omega arith, omega arith)
-    one NoConversion k = tt
+    capital : (x : Letter) → at + length (b ∷ l) ≤ n → LetterIn n at (capitalLetter x at)
+    capital (Conversion c) k = (omega arith, omega arith)
+    capital NoConversion k = tt
 
-    time : (t : TimeFormat → ConversionType) (x : TimeLetter) → at + 2 ≤ n → LetterIn n at (timeLetter t x at)
-    time t (Component x) k = (omega arith, omega arith)
-    time t NoComponent k = tt
+    one : (x y : Letter) → at + length (b ∷ l) ≤ n → LetterIn n at (oneLetter x y at)
+    one (Conversion c) y k = (omega arith, omega arith)
+    one NoConversion y k = capital y k
 
-    second : (t : TimeFormat → ConversionType) (l : List ℕ) → at + length (b ∷ l) ≤ n → LetterIn n at (secondLetter t l at)
-    second t [] k = tt
-    second t (d ∷ l) k = time t (timeOf d) (omega arith)
+    time : (u : Bool) (x : TimeLetter) → at + 2 ≤ n → LetterIn n at (timeLetter u x at)
+    time u (Component x) k = (omega arith, omega arith)
+    time u NoComponent k = tt
+
+    second : (u : Bool) (l : List ℕ) → at + length (b ∷ l) ≤ n → LetterIn n at (secondLetter u l at)
+    second u [] k = tt
+    second u (d ∷ l) k = time u (timeOf d) (omega arith)
 
 letter-in : (s : List ℕ) (at : ℕ) → LetterIn (length s) at (letterAt s at)
 unfolding letterAt
@@ -147,7 +149,7 @@ module _ (s : List ℕ) (at : ℕ) where
   module _ (a k : ℕ) where
     from-letter : (x : Parts) (l : ℕ) → at ≤ l → (t : LetterTaken) → LetterIn (length s) l t
         → SpecifierIn (length s) at (afterLetter a k x t)
-    from-letter x l h (L.Read c n) i =
+    from-letter x l h (L.Read c u n) i =
         by-test (SpecifierIn (length s) at) (fitsKind c k) _ _ (λ _. (omega arith, omega arith)) (λ _. tt)
     from-letter x l h (L.Refused n) i = tt
 

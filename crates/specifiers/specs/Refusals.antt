@@ -33,7 +33,7 @@ PartsHanded (P.Read x at) r = Unit {0}
 PartsHanded (P.Refused number) r = r ≡ S.Refused number
 
 abbrev pub LetterHanded : LetterTaken → Specifier → Type 0
-LetterHanded (L.Read c at) r = Unit {0}
+LetterHanded (L.Read c u at) r = Unit {0}
 LetterHanded (L.Refused number) r = r ≡ S.Refused number
 
 -- Whether a text begins with a byte from A on: no flag, digit or `.` does.

@@ -11,11 +11,10 @@ use Rattle.numerals.specs.declared.NumericParam.{NumericParam}
 use Rattle.numerals.specs.declared.NumericParam.the-variants.{Literal, FromArgument}
 use Rattle.numerals.specs.declared.Taken.{Taken}
 use Rattle.numerals.specs.declared.Taken.the-variants.{Param, TooLarge}
-use Rattle.conversions.specs.Letters.{timeOf, conversionOf}
+use Rattle.conversions.specs.Letters.{timeOf, smallOf, capitalOf}
 use Rattle.conversions.specs.Kinds.{fitsKind}
-use Rattle.conversions.specs.declared.TimeFormat.{TimeFormat}
 use Rattle.conversions.specs.declared.ConversionType.{ConversionType}
-use Rattle.conversions.specs.declared.ConversionType.the-variants.{TimeLower, TimeUpper}
+use Rattle.conversions.specs.declared.ConversionType.the-variants.{Time}
 use Rattle.conversions.specs.declared.Letter.{Letter}
 use Rattle.conversions.specs.declared.Letter.the-variants.{Conversion, NoConversion}
 use Rattle.conversions.specs.declared.TimeLetter.{TimeLetter}
@@ -42,31 +41,30 @@ unfoldable pub precisionAt : List ℕ → ℕ → Taken
 precisionAt s at = choose (beginsWith (code ".") (drop at s)) (λ _. paramAt true s (at + 1)) (λ _. Param FromArgument at)
 
 -- The letter at the front of a text, from the place at on. 01's table: 10 for "no such letter, or end", 11 for "no such time letter, or end".
-abbrev pub oneLetter : Letter → ℕ → LetterTaken
-oneLetter (Conversion c) at = L.Read c (at + 1)
-oneLetter NoConversion at = L.Refused 10
+abbrev pub capitalLetter : Letter → ℕ → LetterTaken
+capitalLetter (Conversion c) at = L.Read c true (at + 1)
+capitalLetter NoConversion at = L.Refused 10
 
-abbrev pub timeLetter : (TimeFormat → ConversionType) → TimeLetter → ℕ → LetterTaken
-timeLetter t (Component x) at = L.Read (t x) (at + 2)
-timeLetter t NoComponent at = L.Refused 11
+abbrev pub oneLetter : Letter → Letter → ℕ → LetterTaken
+oneLetter (Conversion c) capital at = L.Read c false (at + 1)
+oneLetter NoConversion capital at = capitalLetter capital at
 
-abbrev pub secondLetter : (TimeFormat → ConversionType) → List ℕ → ℕ → LetterTaken
-secondLetter t [] at = L.Refused 11
-secondLetter t (b ∷ bs) at = timeLetter t (timeOf b) at
+abbrev pub timeLetter : Bool → TimeLetter → ℕ → LetterTaken
+timeLetter upper (Component x) at = L.Read (Time x) upper (at + 2)
+timeLetter upper NoComponent at = L.Refused 11
 
--- t for TimeLower, T for TimeUpper
-abbrev pub timeCase : Bool → TimeFormat → ConversionType
-timeCase false x = TimeLower x
-timeCase true x = TimeUpper x
+abbrev pub secondLetter : Bool → List ℕ → ℕ → LetterTaken
+secondLetter upper [] at = L.Refused 11
+secondLetter upper (b ∷ bs) at = timeLetter upper (timeOf b) at
 
 abbrev pub letterFrom : List ℕ → ℕ → LetterTaken
 letterFrom [] at = L.Refused 10
 letterFrom (b ∷ bs) at =
-    choose (eqb b (code "t")) (λ _. secondLetter (timeCase false) bs at)
-    (λ _. choose (eqb b (code "T")) (λ _. secondLetter (timeCase true) bs at) (λ _. oneLetter (conversionOf b) at))
+    choose (eqb b (code "t")) (λ _. secondLetter false bs at)
+    (λ _. choose (eqb b (code "T")) (λ _. secondLetter true bs at) (λ _. oneLetter (smallOf b) (capitalOf b) at))
 
 unfoldable pub timeLetterAt : List ℕ → ℕ → Bool → LetterTaken
-timeLetterAt s at upper = secondLetter (timeCase upper) (drop (at + 1) s) at
+timeLetterAt s at upper = secondLetter upper (drop (at + 1) s) at
 
 unfoldable pub letterAt : List ℕ → ℕ → LetterTaken
 letterAt s at = letterFrom (drop at s) at
@@ -88,14 +86,14 @@ unfoldable pub partsAt : List ℕ → ℕ → PartsTaken
 partsAt s at = afterFlags s (flagsFrom (drop at s) at noFlags)
 
 -- The element of the argument a, whose kind's byte is k, read from the place at on: these, the letter, and 12 where the "letter does not fit the kind".
-abbrev pub fitted : ℕ → ℕ → Parts → ConversionType → ℕ → Specifier
-fitted a k x c at =
+abbrev pub fitted : ℕ → ℕ → Parts → ConversionType → Bool → ℕ → Specifier
+fitted a k x c u at =
     choose (fitsKind c k)
-    (λ _. S.Read (record { argument = a; flags = x .flags; width = x .width; precision = x .precision; conversion = c }) at)
+    (λ _. S.Read (record { argument = a; flags = x .flags; width = x .width; precision = x .precision; conversion = c; upper = u }) at)
     (λ _. S.Refused 12)
 
 abbrev pub afterLetter : ℕ → ℕ → Parts → LetterTaken → Specifier
-afterLetter a k x (L.Read c at) = fitted a k x c at
+afterLetter a k x (L.Read c u at) = fitted a k x c u at
 afterLetter a k x (L.Refused number) = S.Refused number
 
 abbrev pub afterParts : List ℕ → ℕ → ℕ → PartsTaken → Specifier

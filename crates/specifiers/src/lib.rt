@@ -44,6 +44,7 @@ pub enum FlagsTaken {
 pub enum LetterTaken {
     Read {
         conversion: ConversionType,
+        upper: bool,
         next: usize,
     },
     Refused {
@@ -63,13 +64,14 @@ pub enum PartsTaken {
     Refused { number: u8 },
 }
 
-// An element: the argument that it takes, and how it is printed.
+// An element: the argument that it takes, and how it is printed; in capitals where upper is set.
 pub struct Element {
     pub argument: usize,
     pub flags: Flags,
     pub width: NumericParam,
     pub precision: NumericParam,
     pub conversion: ConversionType,
+    pub upper: bool,
 }
 
 pub enum Specifier {
@@ -218,14 +220,9 @@ fn take_time_letter(fmt: &[u8], at: usize, upper: bool) -> LetterTaken
             number: refusals::NO_TIME_LETTER,
         };
     };
-    if upper {
-        return LetterTaken::Read {
-            conversion: ConversionType::TimeUpper(x),
-            next: at + 2,
-        };
-    }
     LetterTaken::Read {
-        conversion: ConversionType::TimeLower(x),
+        conversion: ConversionType::Time(x),
+        upper: upper,
         next: at + 2,
     }
 }
@@ -246,13 +243,21 @@ fn take_letter(fmt: &[u8], at: usize) -> LetterTaken
     if b == b'T' {
         return take_time_letter(fmt, at, true);
     }
-    let Letter::Conversion(c) = conversions::conversion_of(b) else {
-        return LetterTaken::Refused {
-            number: refusals::NO_LETTER,
+    let Letter::Conversion(c) = conversions::small_letter(b) else {
+        let Letter::Conversion(d) = conversions::capital_letter(b) else {
+            return LetterTaken::Refused {
+                number: refusals::NO_LETTER,
+            };
+        };
+        return LetterTaken::Read {
+            conversion: d,
+            upper: true,
+            next: at + 1,
         };
     };
     LetterTaken::Read {
         conversion: c,
+        upper: false,
         next: at + 1,
     }
 }
@@ -358,6 +363,7 @@ pub fn take_conversion_specifier(fmt: &[u8], at: usize, argument: usize, kind: u
     let letter = take_letter(fmt, l);
     let LetterTaken::Read {
         conversion,
+        upper,
         next: end,
     } = letter
     else {
@@ -374,6 +380,7 @@ pub fn take_conversion_specifier(fmt: &[u8], at: usize, argument: usize, kind: u
                 width: width,
                 precision: precision,
                 conversion: conversion,
+                upper: upper,
             },
             next: end,
         };

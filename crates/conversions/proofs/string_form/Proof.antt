@@ -1,17 +1,16 @@
 -- `conversions::string_form` meets its contract. Assumes nothing.
 use borrow.Author.Needs.{needs}
+use borrow.Author.Tests.{ne-eqb}
+use Rattle.conversions.specs.Kinds.{integerForm}
 use Rattle.conversions.proofs.string_form.Statement.{statement}
 use Rattle.conversions.proofs.string_form.Tie as tie
 
+text : tie.Need-returns
+unfolding integerForm
+text c = simp (c .if1 .taken)
+
+other : tie.Need-returns-2
+other c = simp (ne-eqb _ _ (c .before .if1 .left)) (c .integer-form .ensures)
+
 pub string-form-spec : {M : Type 1} → statement M
-string-form-spec =
-    tie.close
-    (tie.spec
-    (λ c. search needs)
-    (λ c. search needs)
-    (λ c. search needs)
-    (λ c. search needs)
-    (λ c. simp (c .before .kind .given .1))
-    (λ c. search needs)
-    (λ c. search needs)
-    (λ c. search needs))
+string-form-spec = tie.close (tie.spec text (λ c κs. search needs) other)

@@ -1,7 +1,10 @@
 -- `specifiers::take_letter` meets its contract. Assumes nothing.
+use mathlib.Core.Path.{_≡_, sym}
+use lib.ListN.{getD}
 use borrow.Author.Needs.{needs}
 use borrow.Author.Tests.{eq-eqb, ne-eqb}
-use Rattle.specifiers.specs.Specifier.{timeLetterAt, letterAt}
+use Rattle.conversions.specs.Letters.{capitalOf}
+use Rattle.specifiers.specs.Specifier.{oneLetter, timeLetterAt, letterAt}
 use Rattle.specifiers.proofs.Bytes.{byte-at, no-byte}
 use Rattle.specifiers.proofs.take_letter.Statement.{statement}
 use Rattle.specifiers.proofs.take_letter.Tie as tie
@@ -30,36 +33,38 @@ returns-3 c =
     simp (byte-at (from .fmt .now) (from .at) (inside .if1 .left), ne-eqb _ _ (no-t .if2 .left), eq-eqb _ _ (c .before .if3 .taken))
     (c .take-time-letter2 .ensures)
 
--- no letter, or another one
-returns-4 : tie.Need-returns-4
+-- another letter: small, or a capital
+small : (c : tie.After-small-letter) →
+    let no-t = c .before .before in
+    let inside = no-t .before .before in
+    let from = inside .before .before .args in
+    letterAt (from .fmt .now) (from .at) ≡ oneLetter (c .small-letter .result) (capitalOf (getD (from .fmt .now) (from .at) 0)) (from .at)
 unfolding letterAt
-returns-4 c =
-    let named = c .before .before in
-    let no-t = named .before .before in
+small c =
+    let no-t = c .before .before in
     let inside = no-t .before .before in
     let from = inside .before .before .args in
     simp (
       byte-at (from .fmt .now) (from .at) (inside .if1 .left),
       ne-eqb _ _ (no-t .if2 .left),
-      ne-eqb _ _ (named .before .if3 .left),
-      ← named .conversion-of .ensures,
-      c .enum-told .given .1,
+      ne-eqb _ _ (c .before .if3 .left),
+      ← c .small-letter .ensures,
     )
 
+returns-4 : tie.Need-returns-4
+returns-4 c =
+    let named = c .before .before in
+    let told = named .before in
+    sym (simp (told .enum-told .given .1, ← named .capital-letter .ensures, c .enum-told2 .given .1) at (small (told .before .before)))
+
 returns-5 : tie.Need-returns-5
-unfolding letterAt
 returns-5 c =
     let named = c .before .before .before in
-    let no-t = named .before .before in
-    let inside = no-t .before .before in
-    let from = inside .before .before .args in
-    simp (
-      byte-at (from .fmt .now) (from .at) (inside .if1 .left),
-      ne-eqb _ _ (no-t .if2 .left),
-      ne-eqb _ _ (named .before .if3 .left),
-      ← named .conversion-of .ensures,
-      c .before .c .given .1,
-    )
+    let told = named .before in
+    sym (simp (told .enum-told .given .1, ← named .capital-letter .ensures, c .before .d .given .1) at (small (told .before .before)))
+
+returns-6 : tie.Need-returns-6
+returns-6 c = sym (simp (c .before .c .given .1) at (small (c .before .before .before)))
 
 pub take-letter-spec : {M : Type 1} → statement M
 take-letter-spec =
@@ -74,6 +79,11 @@ take-letter-spec =
     (λ c κs. search needs)
     (λ c. search needs)
     (λ c. search needs)
+    (λ c κs. search needs)
+    (λ c. search needs)
+    (λ c. search needs)
     returns-4
     (λ c. search needs)
-    returns-5)
+    returns-5
+    (λ c. search needs)
+    returns-6)

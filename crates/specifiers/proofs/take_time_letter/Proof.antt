@@ -23,20 +23,11 @@ returns-2 c =
 returns-3 : tie.Need-returns-3
 unfolding timeLetterAt
 returns-3 c =
-    let known = c .before .before in
+    let known = c .before in
     let named = known .before .before in
     let inside = named .before .before in
     let from = inside .before .before .args in
-    simp (byte-at (from .fmt .now) (from .at + 1) (inside .if1 .left), ← named .time-of .ensures, known .x .given .1, c .if2 .taken)
-
-returns-4 : tie.Need-returns-4
-unfolding timeLetterAt
-returns-4 c =
-    let known = c .before .before in
-    let named = known .before .before in
-    let inside = named .before .before in
-    let from = inside .before .before .args in
-    simp (byte-at (from .fmt .now) (from .at + 1) (inside .if1 .left), ← named .time-of .ensures, known .x .given .1, c .if2 .left)
+    simp (byte-at (from .fmt .now) (from .at + 1) (inside .if1 .left), ← named .time-of .ensures, known .x .given .1)
 
 pub take-time-letter-spec : {M : Type 1} → statement M
 take-time-letter-spec =
@@ -50,6 +41,4 @@ take-time-letter-spec =
     (λ c. search needs)
     returns-2
     (λ c. search needs)
-    returns-3
-    (λ c. search needs)
-    returns-4)
+    returns-3)

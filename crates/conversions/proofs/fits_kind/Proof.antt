@@ -1,14 +1,13 @@
--- `conversions::family_fits` meets its contract: for each family, what the arm is told, and its value. Assumes nothing.
+-- `conversions::fits_kind` meets its contract: for each conversion, what the arm is told, and its value. Assumes nothing.
 use borrow.Author.Needs.{needs}
-use Rattle.conversions.proofs.family_fits.Statement.{statement}
-use Rattle.conversions.proofs.family_fits.Tie as tie
+use Rattle.conversions.proofs.fits_kind.Statement.{statement}
+use Rattle.conversions.proofs.fits_kind.Tie as tie
 
-pub family-fits-spec : {M : Type 1} → statement M
-family-fits-spec =
+pub fits-kind-spec : {M : Type 1} → statement M
+fits-kind-spec =
     tie.close
     (tie.spec
     (λ c. search needs)
-    (λ c κs. search needs)
     (λ c. search needs)
     (λ c. search needs)
     (λ c. search needs)
@@ -20,11 +19,11 @@ family-fits-spec =
     (λ c. search needs)
     (λ c κs. search needs)
     (λ c. search needs)
+    (λ c. simp (c .enum-told .given .1))
     (λ c. search needs)
     (λ c. search needs)
-    (λ c. search needs)
-    (λ c. search needs)
-    (λ c. search needs)
+    (λ c. simp (c .before .enum-told4 .given .1) (c .is-integer .ensures))
+    (λ c. simp (c .before .enum-told5 .given .1) (c .is-integer2 .ensures))
     (λ c. simp (c .before .enum-told6 .given .1) (c .is-number .ensures))
     (λ c. simp (c .before .enum-told7 .given .1) (c .is-number2 .ensures))
     (λ c. search needs))
