@@ -13,7 +13,6 @@ use Rattle.numerals.specs.Integers.{intOf, isNegative}
 use Rattle.layout.specs.declared.Mark.the-variants.{NoMark}
 use Rattle.layout.specs.declared.Prefix.{Prefix}
 use Rattle.layout.specs.declared.Prefix.the-variants.{NoPrefix, Octal}
-use Rattle.conversions.specs.Letters.{isUpper}
 use Rattle.conversions.specs.declared.Radix.{Radix}
 use Rattle.conversions.specs.declared.Radix.the-variants as R
 use Rattle.specifiers.specs.declared.Flags.{Flags}
@@ -54,4 +53,4 @@ unsignedNumeral p base upper n = record { mark = NoMark; prefix = p; value = n; 
 abbrev pub numeralOf : Element → Radix → ℕ → ℕ → Numeral
 numeralOf e R.Decimal w v = signedNumeral (e .flags) v
 numeralOf e R.Octal w v = unsignedNumeral (ifAlternate (e .flags) Octal) 8 false (v % 2 ^ w)
-numeralOf e R.Hexadecimal w v = unsignedNumeral (ifAlternate (e .flags) (hexPrefix (isUpper (e .conversion)))) 16 (isUpper (e .conversion)) (v % 2 ^ w)
+numeralOf e R.Hexadecimal w v = unsignedNumeral (ifAlternate (e .flags) (hexPrefix (e .upper))) 16 (e .upper) (v % 2 ^ w)

@@ -24,7 +24,6 @@ use Rattle.binary64.specs.Fields.{negative, categoryOf}
 use Rattle.binary64.specs.HexFloat.{hexFloatOf, hexFloatText}
 use Rattle.binary64.specs.declared.FpCategory.{FpCategory}
 use Rattle.binary64.specs.declared.FpCategory.the-variants as C
-use Rattle.conversions.specs.Letters.{isUpper}
 use Rattle.conversions.specs.Kinds.{printsAs}
 use Rattle.conversions.specs.declared.Radix.{Radix}
 use Rattle.conversions.specs.declared.Radix.the-variants as R
@@ -52,7 +51,7 @@ fill f = choose (f .left) (λ _. Left) (λ _. choose (f .zero) (λ _. Zeros) (λ
 
 -- A text in capitals or not, padded to the element's width; and a number's digits with mark and prefix, padded to it.
 abbrev pub paddedText : Element → Mark → List ℕ → List ℕ
-paddedText e m t = padded (widthOf (e .width)) (side (e .flags)) m NoPrefix (cased (isUpper (e .conversion)) t)
+paddedText e m t = padded (widthOf (e .width)) (side (e .flags)) m NoPrefix (cased (e .upper) t)
 
 abbrev pub paddedNumber : Element → Mark → Prefix → List ℕ → List ℕ
 paddedNumber e m p t = padded (widthOf (e .width)) (fill (e .flags)) m p t
@@ -87,7 +86,7 @@ numeralText e R.Decimal w v =
     paddedNumber e (integerMark (e .flags) (isNegative (intOf 64 v))) NoPrefix (commas (e .flags .grouping) (decimal (natAbs (intOf 64 v))))
 numeralText e R.Octal w v = paddedNumber e NoMark (ifAlternate (e .flags) Octal) (numeral false 8 (v % 2 ^ w))
 numeralText e R.Hexadecimal w v =
-    paddedNumber e NoMark (ifAlternate (e .flags) (hexPrefix (isUpper (e .conversion)))) (numeral (isUpper (e .conversion)) 16 (v % 2 ^ w))
+    paddedNumber e NoMark (ifAlternate (e .flags) (hexPrefix (e .upper))) (numeral (e .upper) 16 (v % 2 ^ w))
 
 -- An integer's digits as text.
 abbrev pub signedText : Bool → ℕ → List ℕ
@@ -116,8 +115,8 @@ floatMark f negative = choose negative (λ _. Minus) (λ _. signMark f)
 
 abbrev pub finiteText : Element → ℕ → List ℕ
 finiteText e v =
-    paddedNumber e (floatMark (e .flags) (negative v)) (hexPrefix (isUpper (e .conversion)))
-    (hexFloatText (isUpper (e .conversion)) (hexFloatOf v (e .precision)))
+    paddedNumber e (floatMark (e .flags) (negative v)) (hexPrefix (e .upper))
+    (hexFloatText (e .upper) (hexFloatOf v (e .precision)))
 
 abbrev pub floatText : Element → FpCategory → ℕ → List ℕ
 floatText e C.Nan v = paddedText e NoMark (ascii "NaN")

@@ -134,13 +134,12 @@ fn put_padded(out: &mut [u8], e: Element, mark: Mark, text: &[u8]) -> u64
 {
     let width = e.width;
     let flags = e.flags;
-    let conversion = e.conversion;
     let n = text.len() as u64;
     let frame = layout::frame_for(width_of(width), side_of(flags), mark, Prefix::NoPrefix, n);
     let total = layout::frame_len(frame) + n;
     if total <= out.len() as u64 {
         let a = layout::write_head(out, frame);
-        let upper = conversions::is_upper(conversion);
+        let upper = e.upper;
         let b = a + strings::write_cased(&mut out[a..], text, upper);
         layout::write_tail(&mut out[b..], frame);
     }
@@ -257,7 +256,6 @@ fn numeral_of(e: Element, radix: Radix, width: u32, value: u64) -> Numeral
     ensures { λ r. ⌜ r ≡ numeralOf e radix width value ⌝ }
 {
     let flags = e.flags;
-    let conversion = e.conversion;
     match radix {
         Radix::Decimal => signed_numeral(flags, value),
         Radix::Octal => {
@@ -265,7 +263,7 @@ fn numeral_of(e: Element, radix: Radix, width: u32, value: u64) -> Numeral
             unsigned_numeral(if_alternate(flags, Prefix::Octal), 8, false, bits)
         }
         Radix::Hexadecimal => {
-            let upper = conversions::is_upper(conversion);
+            let upper = e.upper;
             let bits = numerals::low_bits(value, width);
             unsigned_numeral(if_alternate(flags, hex_prefix(upper)), 16, upper, bits)
         }
@@ -336,8 +334,7 @@ fn format_finite(out: &mut [u8], e: Element, bits: u64) -> u64
     let width = e.width;
     let flags = e.flags;
     let precision = e.precision;
-    let conversion = e.conversion;
-    let upper = conversions::is_upper(conversion);
+    let upper = e.upper;
     let parts = binary64::to_parts(bits);
     let mark = float_mark(flags, parts.negative);
     let float = binary64::hex_float(bits, precision);

@@ -64,7 +64,7 @@ module _ (s ks : List ℕ) (c : Cursor) where
     module _ (f : Flags) (w : ℕ) (flags : flagsFrom (drop next s) next noFlags ≡ F.Read f w) where
       letter-caused : (x y : NumericParam) (p l : ℕ) → paramAt false s w ≡ Param x p → precisionAt s p ≡ Param y l
           → (t : LetterTaken) → letterAt s l ≡ t → Caused (afterLetter a (getD ks (a - 1) 0) (record { flags = f; width = x; precision = y }) t)
-      letter-caused x y p l width precision (L.Read t end) e =
+      letter-caused x y p l width precision (L.Read t u end) e =
           by-test Caused (fitsKind t (getD ks (a - 1) 0)) _ _ (λ _. tt) (λ n. K.fit takes few flags width precision e n)
       letter-caused x y p l width precision (L.Refused n) e = K.letter takes few flags width precision e
 

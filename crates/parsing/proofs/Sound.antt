@@ -33,7 +33,7 @@ Of a (S.Refused number) = Unit {0}
 
 module _ (s : List ℕ) (a k : ℕ) where
   of-letter : (x : Parts) (t : LetterTaken) → Of a (afterLetter a k x t)
-  of-letter x (L.Read c at) = by-test (Of a) (fitsKind c k) _ _ (λ _. refl) (λ _. tt)
+  of-letter x (L.Read c u at) = by-test (Of a) (fitsKind c k) _ _ (λ _. refl) (λ _. tt)
   of-letter x (L.Refused n) = tt
 
   of-parts : (t : PartsTaken) → Of a (afterParts s a k t)

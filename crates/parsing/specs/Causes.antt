@@ -55,9 +55,9 @@ pub data Fault (s ks : List ℕ) (c : Cursor) : ℕ → Type 0 where
   letter : {a next w p l number : ℕ} {f : Flags} {x y : NumericParam} → Takes s c a next → a ≤ length ks
       → flagsFrom (drop next s) next noFlags ≡ F.Read f w → paramAt false s w ≡ Param x p → precisionAt s p ≡ Param y l
       → letterAt s l ≡ L.Refused number → Fault s ks c number
-  fit : {a next w p l end : ℕ} {f : Flags} {x y : NumericParam} {t : ConversionType} → Takes s c a next → a ≤ length ks
+  fit : {a next w p l end : ℕ} {f : Flags} {x y : NumericParam} {t : ConversionType} {u : Bool} → Takes s c a next → a ≤ length ks
       → flagsFrom (drop next s) next noFlags ≡ F.Read f w → paramAt false s w ≡ Param x p → precisionAt s p ≡ Param y l
-      → letterAt s l ≡ L.Read t end → fitsKind t (getD ks (a - 1) 0) ≡ false → Fault s ks c 12
+      → letterAt s l ≡ L.Read t u end → fitsKind t (getD ks (a - 1) 0) ≡ false → Fault s ks c 12
 
 -- The cursors that reading comes to, each with the number of pieces before it.
 pub data Reached (s ks : List ℕ) : ℕ → Cursor → Type 0 where

@@ -1,5 +1,5 @@
 -- Laws of the widths of integer kinds: one that a byte names is from 1 to 64. Assumes nothing.
-use Prim.Native.Nat.{ℕ, _*_, _%_, _^_, _<_}
+use Prim.Native.Nat.{ℕ, _*_, _%_, _^_, _≤_, _<_}
 use mathlib.Core.Path.{_≡_, ap, subst, _∙_}
 use mathlib.Core.List.{List, [], _∷_}
 use native.Mathlib.Nat.{one-mul, mod-eq-of-lt}
@@ -7,7 +7,7 @@ use native.Mathlib.Omega.{arith}
 use lib.Dec.{eqb}
 use lib.Pow.{pow-lt}
 use Rattle.writing.proofs.Choose.{by-test}
-use Rattle.conversions.specs.Kinds.{kinds, kindOf}
+use Rattle.conversions.specs.Kinds.{integers, otherKinds, kindOf}
 use Rattle.conversions.specs.Letters.{lookup}
 use Rattle.conversions.specs.declared.Kind.{Kind}
 use Rattle.conversions.specs.declared.Kind.the-variants as K
@@ -20,23 +20,29 @@ unfoldable ByteWidth : KindByte → Type 0
 ByteWidth (Known k) = HasWidth k
 ByteWidth Unknown = Unit {0}
 
--- the same of every row of a table of kinds
-abbrev AllWide : List (ℕ × Kind) → Type 0
+-- the same of every row of the table of integers
+abbrev AllWide : List (ℕ × ℕ) → Type 0
 AllWide [] = Unit {0}
-AllWide (r ∷ rows) = HasWidth (r .1) × AllWide rows
+AllWide (r ∷ rows) = (1 ≤ r .1) × (r .1 ≤ 64) × AllWide rows
 
-table : (rows : List (ℕ × Kind)) (b : ℕ) → AllWide rows → ByteWidth (lookup (λ k. k) Known Unknown rows b)
+table : (rows : List (ℕ × ℕ)) (others : KindByte) (b : ℕ) → AllWide rows → ByteWidth others
+    → ByteWidth (lookup (λ k. k) (λ w. Known (K.Signed w)) others rows b)
 unfolding ByteWidth
-table [] b w = tt
-table (r ∷ rows) b w = by-test ByteWidth (eqb b (r .0)) _ _ (λ _. w .0) (λ _. table rows b (w .1))
+table [] others b w o = o
+table (r ∷ rows) others b w o = by-test ByteWidth (eqb b (r .0)) _ _ (λ _. (w .0, w .1)) (λ _. table rows others b (w .2) o)
 
-all-wide : AllWide kinds
-all-wide =
-    ((omega arith, omega arith), ((omega arith, omega arith), ((omega arith, omega arith), ((omega arith, omega arith), (tt, (tt, (tt, tt)))))))
+other-kinds : (b : ℕ) → ByteWidth (lookup (λ k. k) Known Unknown otherKinds b)
+unfolding ByteWidth
+other-kinds b =
+    by-test ByteWidth (eqb b 5) _ _ (λ _. tt)
+    (λ _. by-test ByteWidth (eqb b 6) _ _ (λ _. tt) (λ _. by-test ByteWidth (eqb b 7) _ _ (λ _. tt) (λ _. tt)))
 
 all : (b : ℕ) → ByteWidth (kindOf b)
 unfolding kindOf
-all b = table kinds b all-wide
+all b =
+    table integers _ b
+    (omega arith, omega arith, (omega arith, omega arith, (omega arith, omega arith, (omega arith, omega arith, tt))))
+    (other-kinds b)
 
 pub has-width : (b : ℕ) (k : Kind) → kindOf b ≡ Known k → HasWidth k
 unfolding ByteWidth

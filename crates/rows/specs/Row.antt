@@ -2,11 +2,10 @@
 -- bytes. Then t bytes of text. All little-endian, length exactly 6 + 9n + t."
 use Prim.Native.Nat.{ℕ, zero, suc, _+_, _-_, _*_, _/_, _%_, _^_}
 use mathlib.Core.Bool.{Bool, true, false, _&&_, _||_}
-use mathlib.Core.List.{List, [], _∷_}
+use mathlib.Core.List.{List}
 use lib.Dec.{leb, ltb, eqb}
 use lib.ListN.{length, getD, take, drop}
 use Rattle.refusals.specs.Limits.{mostValues, mostText}
-use Rattle.writing.specs.Choose.{choose}
 use Rattle.numerals.specs.LittleEndian.{wordAt}
 use Rattle.utf8.specs.Utf8.{wellFormed}
 use Rattle.conversions.specs.Kinds.{kindOf}
@@ -43,20 +42,9 @@ isNull k = leb 128 k
 abbrev pub partOf : List ℕ → ℕ → List ℕ
 partOf text v = take (v / 2 ^ 32) (drop (v % 2 ^ 32) text)
 
--- 7 is the kind of a text; any other kind names none.
-abbrev pub isTextKind : KindByte → Bool
-isTextKind (Known (K.Signed w)) = false
-isTextKind (Known K.Float64) = false
-isTextKind (Known K.Boolean) = false
-isTextKind (Known K.Text) = true
-isTextKind Unknown = false
-
-abbrev pub isText : ℕ → Bool
-isText k = isTextKind (kindOf (k % 128))
-
--- The text that the argument a names.
+-- The text that the argument a names, where it is of kind 7.
 unfoldable pub namedText : List ℕ → ℕ → List ℕ
-namedText row a = choose (isText (kindByteOf row a)) (λ _. partOf (textOf row) (valueOf row a)) (λ _. [])
+namedText row a = partOf (textOf row) (valueOf row a)
 
 -- The values of each kind: integers "sign-extended, within the kind"; every pattern of a float; "Boolean (0 or 1)"; a text whose offset and length
 -- have a "sum at most t, well-formed UTF-8".

@@ -6,8 +6,8 @@ ghost use mathlib.Core.List.{[]};
 ghost use Prim.Native.Nat.{_+_, _*_, _%_, _^_, _≤_, _<_};
 ghost use Rattle.conversions.specs.Kinds.{kindOf};
 ghost use lib.ListN.{length};
-ghost use Rattle.rows.specs.Row.{countOf, kindByteOf, valueOf, isText, namedText, isNull, holds, canBeNull, entryOf, entriesFrom};
-ghost use Rattle.rows.specs.Arguments.{HasWidth, Argument, rowOf};
+ghost use Rattle.rows.specs.Row.{countOf, kindByteOf, valueOf, isNull, holds, canBeNull, entryOf, entriesFrom};
+ghost use Rattle.rows.specs.Arguments.{HasWidth, Argument, rowOf, isText, handedOut};
 
 // How many arguments a row says it has.
 fn count_of(row: &[u8]) -> usize
@@ -149,21 +149,13 @@ pub fn value_of(row: &[u8], argument: usize) -> u64
 fn is_text(byte: u8) -> bool
     ensures { λ r. ⌜ r ≡ isText byte ⌝ }
 {
-    let KindByte::Known(kind) = conversions::kind_of(byte % 128) else {
-        return false;
-    };
-    match kind {
-        Kind::Signed(_) => false,
-        Kind::Float64 => false,
-        Kind::Boolean => false,
-        Kind::Text => true,
-    }
+    byte % 128 == 7
 }
 
 // The text that an argument of kind 7 names; any other kind names none.
 pub fn named_text<'a>(row: &'a [u8], argument: usize) -> &'a [u8]
     requires { ⌜ Argument (now row) argument ⌝ }
-    ensures { λ r. ⌜ (now r ≡ namedText (now (row .entry)) argument) × (length (now r) < 2 ^ 32) ⌝ }
+    ensures { λ r. ⌜ (now r ≡ handedOut (now (row .entry)) argument) × (length (now r) < 2 ^ 32) ⌝ }
 {
     if is_text(kind_byte(row, argument)) {
         let value = value_of(row, argument);

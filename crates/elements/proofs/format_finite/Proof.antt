@@ -34,18 +34,15 @@ measured c = filled c .before .before
 abbrev marked : tie.After-frame-len → tie.After-float-mark
 marked c = measured c .before .before
 
-abbrev upper : tie.After-frame-len → tie.After-is-upper
-upper c = marked c .before .before
-
 abbrev start : tie.After-frame-len → tie.Start
-start c = upper c .before .before .before
+start c = marked c .before .before .before .before
 
 abbrev text : tie.After-frame-len → List ℕ
-text c = hexFloatText (upper c .is-upper .result) (measured c .before .hex-float .result)
+text c = hexFloatText (start c .args .e .upper) (measured c .before .hex-float .result)
 
 module _ (c : tie.After-frame-len) where
   own : measured c .hex-float-len .result ≡ length (text c)
-  own = measured c .hex-float-len .ensures (upper c .is-upper .result)
+  own = measured c .hex-float-len .ensures (start c .args .e .upper)
 
   frame-is : c .before .frame-for .result
       ≡ frameOf (filled c .before .width-of .result) (filled c .fill-of .result) (marked c .float-mark .result) (prefixed c .hex-prefix .result)
@@ -62,7 +59,6 @@ module _ (c : tie.After-frame-len) where
       simp (
         ← filled c .before .width-of .ensures,
         ← filled c .fill-of .ensures,
-        ← upper c .is-upper .ensures,
         ← prefixed c .hex-prefix .ensures,
         ← marked c .before .to-parts .ensures .0,
         ← marked c .float-mark .ensures,
@@ -83,9 +79,6 @@ module _ (c : tie.After-frame-len) where
 -- the text is as long as was measured
 written : (c : tie.After-slice-known3) → c .before .before .write-hex-float .result ≡ measured (framed c) .hex-float-len .result
 written c = c .before .before .write-hex-float .ensures .0 ∙ sym (own (framed c))
-
-is-upper-requires : tie.Need-is-upper-requires
-is-upper-requires c κs = search needs
 
 to-parts-requires : tie.Need-to-parts-requires
 to-parts-requires c κs = search needs
@@ -185,7 +178,6 @@ pub format-finite-spec : {M : Type 1} → statement M
 format-finite-spec =
     tie.close
     (tie.spec
-    is-upper-requires
     to-parts-requires
     float-mark-requires
     hex-float-requires

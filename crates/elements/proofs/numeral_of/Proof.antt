@@ -24,9 +24,6 @@ unsigned-numeral-requires c κs = search needs
 enum-told-3 : tie.Need-enum-told-3
 enum-told-3 c = search needs
 
-is-upper-requires : tie.Need-is-upper-requires
-is-upper-requires c κs = search needs
-
 low-bits-requires-2 : tie.Need-low-bits-requires-2
 low-bits-requires-2 c κs = search needs
 
@@ -53,10 +50,8 @@ returns-3 c =
     let prefixed = c .before in
     let lettered = prefixed .before in
     let bits = lettered .before in
-    let upper = bits .before in
     simp (
-      upper .before .enum-told3 .given .1,
-      ← upper .is-upper .ensures,
+      bits .before .enum-told3 .given .1,
       ← bits .low-bits2 .ensures,
       ← lettered .hex-prefix .ensures,
       ← prefixed .if-alternate2 .ensures,
@@ -73,7 +68,6 @@ numeral-of-spec =
     if-alternate-requires
     unsigned-numeral-requires
     enum-told-3
-    is-upper-requires
     low-bits-requires-2
     hex-prefix-requires
     if-alternate-requires-2

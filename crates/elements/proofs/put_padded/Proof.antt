@@ -7,7 +7,6 @@ use native.Mathlib.Omega.{arith}
 use Rattle.layout.specs.Frame.{headText, tailText, frameOf}
 use Rattle.layout.specs.declared.Prefix.the-variants.{NoPrefix}
 use Rattle.layout.proofs.Padded.{padded-put, padded-not}
-use Rattle.conversions.specs.Letters.{isUpper}
 use Rattle.strings.specs.Cut.{cased}
 use Rattle.strings.proofs.Cased.{length-cased}
 use Rattle.elements.specs.Texts.{widthOf, side}
@@ -19,7 +18,7 @@ use Rattle.elements.proofs.put_padded.Tie as tie
 abbrev framed : tie.After-slice-known3 → tie.After-frame-len
 framed c =
     let text = c .before .before in
-    let head = text .before .before .before .before .before in
+    let head = text .before .before .before .before in
     let tested = head .before .before in
     tested .before
 
@@ -29,12 +28,12 @@ start c =
     sided .before .before .before .before .before
 
 abbrev shown : tie.After-frame-len → List ℕ
-shown c = cased (isUpper (start c .args .e .conversion)) (start c .args .text .now)
+shown c = cased (start c .args .e .upper) (start c .args .text .now)
 
 module _ (c : tie.After-frame-len) where
   -- the text in capitals or not is as long
   same : length (shown c) ≡ length (start c .args .text .now)
-  same = length-cased (isUpper (start c .args .e .conversion)) (start c .args .text .now)
+  same = length-cased (start c .args .e .upper) (start c .args .text .now)
 
   frame-is : c .before .frame-for .result
       ≡ frameOf (widthOf (start c .args .e .width)) (side (start c .args .e .flags)) (start c .args .mark) NoPrefix (length (shown c))
@@ -70,9 +69,6 @@ add-total c = search needs
 write-head-requires : tie.Need-write-head-requires
 write-head-requires c κs = search needs
 
-is-upper-requires : tie.Need-is-upper-requires
-is-upper-requires c κs = search needs
-
 sub-write-cased : tie.Need-sub-write-cased
 sub-write-cased c = search needs
 
@@ -107,15 +103,13 @@ returns : tie.Need-returns
 returns c =
     let tail = c .before .before in
     let text = tail .before .before .before .before in
-    let upper = text .before .before in
-    let head = upper .before .before .before in
+    let head = text .before .before .before .before in
     let tested = head .before .before in
     let len = tested .before in
-    let a = start len .args in
-    let wrote = rw (upper .is-upper .ensures) at (text .write-cased .ensures) in (
+    let a = start len .args in (
       padded-put (widthOf (a .e .width)) (side (a .e .flags)) (a .mark) NoPrefix (shown len) (len .before .frame-for .result) (frame-is len) (a .out .now)
           (len .frame-len .result + length (a .text .now)) (whole len)
-          _ _ _ _ _ _ _ (tested .if1 .taken) (head .write-head .ensures) wrote refl (tail .write-tail .ensures),
+          _ _ _ _ _ _ _ (tested .if1 .taken) (head .write-head .ensures) (text .write-cased .ensures) refl (tail .write-tail .ensures),
       small len,
     )
 
@@ -138,7 +132,6 @@ put-padded-spec =
     frame-len-requires
     add-total
     write-head-requires
-    is-upper-requires
     sub-write-cased
     part-write-cased-start
     part-write-cased-end

@@ -5,7 +5,8 @@ use mathlib.Core.Bool.{true}
 use native.Mathlib.Nat.{add-sub-cancel-left}
 use native.Mathlib.Omega.{arith}
 use lib.ListN.{length, length-take}
-use Rattle.rows.specs.Row.{kindByteOf, isText}
+use Rattle.rows.specs.Row.{kindByteOf}
+use Rattle.rows.specs.Arguments.{isText}
 use Rattle.rows.proofs.Arguments.{room, text-room, text-part, text-none}
 use borrow.Author.Needs.{needs}
 use Rattle.rows.proofs.named_text.Statement.{statement}

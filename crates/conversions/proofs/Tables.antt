@@ -1,0 +1,60 @@
+-- Laws of the tables: two that are read by one key go row by row, and what holds of every form holds of the form of a kind. Assumes nothing.
+use Prim.Native.Nat.{ℕ}
+use mathlib.Core.Path.{_≡_, refl}
+use mathlib.Core.Bool.{Bool, true, false}
+use mathlib.Core.List.{List, [], _∷_}
+use lib.Dec.{eqb}
+use Rattle.writing.specs.Choose.{choose}
+use Rattle.conversions.specs.Letters.{lookup}
+use Rattle.conversions.specs.Kinds.{integers, otherKinds, kindOf, integerForm, onlyIf, formOf}
+use Rattle.conversions.specs.declared.ConversionType.{ConversionType}
+use Rattle.conversions.specs.declared.ConversionType.the-variants as C
+use Rattle.conversions.specs.declared.Kind.the-variants as K
+use Rattle.conversions.specs.declared.KindByte.{KindByte}
+use Rattle.conversions.specs.declared.KindByte.the-variants.{Known, Unknown}
+use Rattle.conversions.specs.declared.IntegerForm.{IntegerForm}
+use Rattle.conversions.specs.declared.IntegerForm.the-variants.{Numeral, Scalar, Digits}
+use Rattle.conversions.specs.declared.Form.{Form}
+use Rattle.conversions.specs.declared.Form.the-variants as F
+
+-- a choice by one test on either side
+by-one-test : {B C : Type 0} (R : B → C → Type 0) (t : Bool) (a b : Unit {0} → B) (c d : Unit {0} → C)
+    → R (a tt) (c tt) → R (b tt) (d tt) → R (choose t a b) (choose t c d)
+by-one-test R true a b c d x y = x
+by-one-test R false a b c d x y = y
+
+-- What two tables with the same keys give for a key, where their rows are related, and what they give for no key.
+module _ {A B C : Type 0} (R : B → C → Type 0) (f : A → B) (g : A → C) (row : (a : A) → R (f a) (g a)) (o : B) (p : C) (others : R o p) where
+  pub together : (rows : List (ℕ × A)) (k : ℕ) → R (lookup (λ b. b) f o rows k) (lookup (λ b. b) g p rows k)
+  together [] k = others
+  together (r ∷ rows) k = by-one-test R (eqb k (r .0)) _ _ _ _ (row (r .1)) (together rows k)
+
+only-if : (P : Form → Type 0) (t : Bool) (f : Form) → P F.NotPrinted → (t ≡ true → P f) → P (onlyIf t f)
+only-if P true f n h = h refl
+only-if P false f n h = n
+
+-- What is claimed of a width, of a kind byte and of a form.
+abbrev pub OfByte : (ℕ → Type 0) → KindByte → Type 0
+OfByte Q (Known (K.Signed w)) = Q w
+OfByte Q (Known K.Float64) = Unit {0}
+OfByte Q (Known K.Boolean) = Unit {0}
+OfByte Q (Known K.Text) = Unit {0}
+OfByte Q Unknown = Unit {0}
+
+-- A claim of forms holds of the form of a kind where it holds of an integer in each width of that kind, and, of kind 7 alone, of a text.
+module _ (P : Form → Type 0) (Q : ℕ → Type 0) (k : ℕ) (n : P F.NotPrinted) (i : (f : IntegerForm) (w : ℕ) → Q w → P (F.Integer f w))
+    (h : P F.HexFloat) (b : P F.Boolean) (t : eqb k 7 ≡ true → P F.Text) where
+  integer : (f : IntegerForm) (others : Form) → P others → OfByte Q (kindOf k) → P (integerForm f k others)
+  unfolding kindOf integerForm
+  integer f others o =
+      together (λ x y. OfByte Q y → P x) (F.Integer f) (λ w. Known (K.Signed w)) (i f) others (lookup (λ b. b) Known Unknown otherKinds k) (λ _. o) integers k
+
+  pub form-of : (c : ConversionType) → OfByte Q (kindOf k) → P (formOf c k)
+  form-of (C.Integer r) q = integer (Numeral r) F.NotPrinted n q
+  form-of C.Char q = integer Scalar F.NotPrinted n q
+  form-of C.String q = integer Digits (onlyIf (eqb k 7) F.Text) (only-if P (eqb k 7) F.Text n t) q
+  form-of C.HexFloat q = only-if P (eqb k 5) F.HexFloat n (λ _. h)
+  form-of C.Boolean q = only-if P (eqb k 6) F.Boolean n (λ _. b)
+  form-of C.DecimalFloat q = n
+  form-of (C.Time x) q = n
+  form-of C.HexHash q = n
