@@ -7,17 +7,15 @@ use mathlib.Core.Option.{none}
 use native.Mathlib.Omega.{arith}
 use Rattle.numerals.specs.Integers.{intOf, bitsOf}
 use Rattle.binary64.specs.Fields.{categoryOf}
-use Rattle.conversions.specs.Letters.{familyOf}
-use Rattle.conversions.specs.Kinds.{kindOf, formByte, printsAs}
-use Rattle.conversions.specs.declared.Family.{Family}
+use Rattle.conversions.specs.Kinds.{kindOf, formOf, printsAs}
 use Rattle.conversions.specs.declared.Kind.{Kind}
 use Rattle.conversions.specs.declared.Kind.the-variants as K
 use Rattle.conversions.specs.declared.KindByte.{KindByte}
 use Rattle.conversions.specs.declared.KindByte.the-variants.{Known, Unknown}
 use Rattle.conversions.specs.declared.IntegerForm.{IntegerForm}
 use Rattle.conversions.specs.declared.IntegerForm.the-variants.{Numeral, Scalar, Digits}
-use Rattle.conversions.specs.declared.Form.{Form}
 use Rattle.conversions.specs.declared.Form.the-variants as F
+use Rattle.conversions.proofs.Tables.{OfByte, form-of}
 use Rattle.specifiers.specs.declared.Element.{Element}
 use Rattle.rows.specs.Row.{isNull, entryOf, entryAt, textOf, kindByteOf, valueOf}
 use Rattle.rows.specs.Arguments.{HasWidth, Argument}
@@ -27,7 +25,6 @@ use Rattle.elements.specs.Texts.{Shown, Text, Stops, integerText, valueText, el
 use Rattle.columns.specs.Columns.{IntegerRead, ValueRead, ReadsBack}
 use Rattle.columns.proofs.Integers.{own-bits, numeral-read}
 use Rattle.columns.proofs.Floats.{float-read}
-use Rattle.columns.proofs.Forms.{OfKind, OfForm, form-of}
 
 -- That what is shown reads as R says; where the call is stopped, nothing is read.
 abbrev pub ShownRead : (List ℕ → Type 0) → Shown → Type 0
@@ -46,16 +43,16 @@ OwnBits v false w = v % 2 ^ w ≡ bitsOf w (intOf 64 v)
 
 -- of a row's value, by its kind
 module _ (v : ℕ) (b : v < 2 ^ 64) (text : List ℕ) where
-  of-kind : (k : Kind) (null : Bool) → HasWidth k → entryOf (Known k) null text v ≡ true → OfKind (OwnBits v null) k
+  of-kind : (k : Kind) (null : Bool) → HasWidth k → entryOf (Known k) null text v ≡ true → OfByte (OwnBits v null) (Known k)
   of-kind (K.Signed w) false s h = own-bits w v text (s .0) (s .1) b h
   of-kind (K.Signed w) true s h = tt
   of-kind K.Float64 null s h = tt
   of-kind K.Boolean null s h = tt
   of-kind K.Text null s h = tt
 
-  of-byte : (c : Family) (n : ℕ) (k : KindByte) (null : Bool) → kindOf n ≡ k → entryOf k null text v ≡ true → OfForm (OwnBits v null) (formByte c k)
-  of-byte c n (Known k) null q h = form-of (OwnBits v null) c k (of-kind k null (has-width n k q) h)
-  of-byte c n Unknown null q h = tt
+  of-byte : (n : ℕ) (k : KindByte) (null : Bool) → kindOf n ≡ k → entryOf k null text v ≡ true → OfByte (OwnBits v null) k
+  of-byte n (Known k) null q h = of-kind k null (has-width n k q) h
+  of-byte n Unknown null q h = tt
 
 -- by its form
 module _ (e : Element) (part : List ℕ) (v : ℕ) where
@@ -64,21 +61,23 @@ module _ (e : Element) (part : List ℕ) (v : ℕ) where
   integer-read Scalar w h = not-read (integerText e Scalar w v)
   integer-read Digits w h = tt
 
-  value-read : (f : Form) (null : Bool) → OfForm (OwnBits v null) f → ShownRead (ValueRead e f null v) (valueText e f null part v)
-  value-read (F.Integer f w) false h = integer-read f w h
-  value-read (F.Integer f w) true h = tt
-  value-read F.HexFloat null h = float-read e (categoryOf v) v
-  value-read F.Boolean null h = tt
-  value-read F.Text null h = tt
-  value-read F.NotPrinted null h = tt
+  -- an integer that is not null, and any other form
+  integer-value : (null : Bool) (f : IntegerForm) (w : ℕ) → OwnBits v null w
+      → ShownRead (ValueRead e (F.Integer f w) null v) (valueText e (F.Integer f w) null part v)
+  integer-value false f w h = integer-read f w h
+  integer-value true f w h = tt
+
+  value-read : (null : Bool) (n : ℕ) → OfByte (OwnBits v null) (kindOf n)
+      → ShownRead (ValueRead e (formOf (e .conversion) n) null v) (valueText e (formOf (e .conversion) n) null part v)
+  value-read null n q =
+      form-of (λ f. ShownRead (ValueRead e f null v) (valueText e f null part v)) (OwnBits v null) n tt (integer-value null)
+      (float-read e (categoryOf v) v) tt (λ _. tt) (e .conversion) q
 
 -- Of every element, for an entry of a row: its kind byte k, its value v, and the row's text.
 pub element-read : (e : Element) (k : ℕ) (text part : List ℕ) (v : ℕ) → v < 2 ^ 64 → entryOf (kindOf (k % 128)) (isNull k) text v ≡ true
     → ShownRead (ReadsBack e k v) (elementText e k part v)
 unfolding elementText printsAs ReadsBack
-element-read e k text part v b h =
-    value-read e part v (printsAs (e .conversion) k) (isNull k)
-    (of-byte v b text (familyOf (e .conversion)) (k % 128) (kindOf (k % 128)) (isNull k) refl h)
+element-read e k text part v b h = value-read e part v (isNull k) (k % 128) (of-byte v b text (k % 128) (kindOf (k % 128)) (isNull k) refl h)
 
 unstopped : (R : List ℕ → Type 0) (x : Shown) → ShownRead R x → stopOf x ≡ none → R (shownText x)
 unstopped R (Text t) h e = h

@@ -17,7 +17,6 @@ use Rattle.reading.proofs.Integers.{spaced}
 use Rattle.reading.proofs.Floats.{scaledOf, hexPrefix as readPrefix}
 use Rattle.reading.proofs.Pieces.{float-piece}
 use Rattle.reading.proofs.Denotes.{denotes}
-use Rattle.conversions.specs.Letters.{isUpper}
 use Rattle.specifiers.specs.declared.Flags.{Flags}
 use Rattle.specifiers.specs.declared.Element.{Element}
 use Rattle.elements.specs.Texts.{widthOf, fill, hexPrefix, floatMark, finiteText, floatText}
@@ -34,14 +33,14 @@ float-mark : (f : Flags) (s : Bool) → (isMinus (floatMark f s) ≡ s) × (clos
 float-mark f true = (refl, refl)
 float-mark f false = sign-mark f
 
-finite-read : (e : Element) (v : ℕ) → FloatRead v (e .precision) (readPiece (floatLetter (isUpper (e .conversion))) (finiteText e v))
+finite-read : (e : Element) (v : ℕ) → FloatRead v (e .precision) (readPiece (floatLetter (e .upper)) (finiteText e v))
 finite-read e v =
     padded-read (λ (t : List ℕ). FloatRead v (e .precision) (readPiece (floatLetter u) t)) m (hexPrefix u) body
     (λ a z i. record { number = scaledOf (negative v) h; read = read a z i; denotes = denotes v (e .precision) })
     (widthOf (e .width)) (fill (e .flags))
   where
     u : Bool
-    u = isUpper (e .conversion)
+    u = e .upper
 
     m : Mark
     m = floatMark (e .flags) (negative v)
@@ -61,7 +60,7 @@ finite-read e v =
 
 -- The piece of a float by its category: a NaN and an infinity have no number to read.
 pub float-read : (e : Element) (c : FpCategory) (v : ℕ)
-    → FiniteRead c v (e .precision) (readPiece (floatLetter (isUpper (e .conversion))) (floatText e c v))
+    → FiniteRead c v (e .precision) (readPiece (floatLetter (e .upper)) (floatText e c v))
 float-read e C.Nan v = tt
 float-read e C.Infinite v = tt
 float-read e C.Zero v = finite-read e v

@@ -23,7 +23,6 @@ use Rattle.reading.specs.Kept.{kept}
 use Rattle.reading.specs.Reading.{Integer, Bits, readPiece}
 use Rattle.reading.proofs.Integers.{spaced, kept-numeral, kept-commas}
 use Rattle.reading.proofs.Pieces.{decimal-piece, hex-piece, octal-piece}
-use Rattle.conversions.specs.Letters.{isUpper}
 use Rattle.conversions.specs.declared.Kind.the-variants as K
 use Rattle.conversions.specs.declared.Radix.{Radix}
 use Rattle.conversions.specs.declared.Radix.the-variants as R
@@ -90,9 +89,9 @@ module _ (c base : ℕ) (two : 2 ≤ base) (most : base ≤ 16)
 
 -- The piece of an integer of w bits under the letter of its element.
 pub numeral-read : (e : Element) (r : Radix) (w v : ℕ) → v % 2 ^ w ≡ bitsOf w (intOf 64 v)
-    → NumeralRead r w (intOf 64 v) (readPiece (numeralLetter r (isUpper (e .conversion))) (numeralText e r w v))
+    → NumeralRead r w (intOf 64 v) (readPiece (numeralLetter r (e .upper)) (numeralText e r w v))
 numeral-read e R.Decimal w v q = signed-read e (intOf 64 v)
 numeral-read e R.Octal w v q = unsigned-read (code "o") 8 (lit≤ tt) (lit≤ tt) octal-piece e (ifAlternate (e .flags) Octal) false (v % 2 ^ w) _ q
 numeral-read e R.Hexadecimal w v q =
-    let u = isUpper (e .conversion) in
+    let u = e .upper in
     unsigned-read (numeralLetter R.Hexadecimal u) 16 (lit≤ tt) (lit≤ tt) (hex-piece u) e (ifAlternate (e .flags) (hexPrefix u)) u (v % 2 ^ w) _ q

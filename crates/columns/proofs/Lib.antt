@@ -2,5 +2,4 @@ pub mod Letters
 mod Frames
 mod Integers
 mod Floats
-mod Forms
 pub mod Columns

@@ -13,7 +13,6 @@ use Rattle.binary64.specs.declared.FpCategory.{FpCategory}
 use Rattle.binary64.specs.declared.FpCategory.the-variants as C
 use Rattle.reading.specs.Reading.{Scaled, Reading, Integer, Bits, Float, readPiece}
 use Rattle.reading.specs.Nearness.{Denotes}
-use Rattle.conversions.specs.Letters.{isUpper}
 use Rattle.conversions.specs.Kinds.{printsAs}
 use Rattle.conversions.specs.declared.Radix.{Radix}
 use Rattle.conversions.specs.declared.Radix.the-variants as R
@@ -55,14 +54,14 @@ FiniteRead C.Normal b p r = FloatRead b p r
 
 -- The bytes t of an integer that is not null, and of any value in its form; what is neither a numeral nor a float is not read back.
 abbrev pub IntegerRead : Element → IntegerForm → ℕ → ℕ → List ℕ → Type 0
-IntegerRead e (Numeral r) w v t = NumeralRead r w (intOf 64 v) (readPiece (numeralLetter r (isUpper (e .conversion))) t)
+IntegerRead e (Numeral r) w v t = NumeralRead r w (intOf 64 v) (readPiece (numeralLetter r (e .upper)) t)
 IntegerRead e Scalar w v t = Unit {0}
 IntegerRead e Digits w v t = Unit {0}
 
 abbrev pub ValueRead : Element → Form → Bool → ℕ → List ℕ → Type 0
 ValueRead e (F.Integer f w) false v t = IntegerRead e f w v t
 ValueRead e (F.Integer f w) true v t = Unit {0}
-ValueRead e F.HexFloat null v t = FiniteRead (categoryOf v) v (e .precision) (readPiece (floatLetter (isUpper (e .conversion))) t)
+ValueRead e F.HexFloat null v t = FiniteRead (categoryOf v) v (e .precision) (readPiece (floatLetter (e .upper)) t)
 ValueRead e F.Boolean null v t = Unit {0}
 ValueRead e F.Text null v t = Unit {0}
 ValueRead e F.NotPrinted null v t = Unit {0}

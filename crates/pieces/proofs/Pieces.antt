@@ -1,29 +1,31 @@
 -- What a piece's text and size are, by the piece. Assumes nothing.
-use Prim.Native.Nat.{ℕ, _^_, _<_}
+use Prim.Native.Nat.{ℕ, _%_, _^_, _<_}
 use mathlib.Core.Path.{_≡_, refl, ap, _∙_}
-use mathlib.Core.Bool.{Bool}
+use mathlib.Core.Bool.{true}
 use mathlib.Core.List.{List}
 use mathlib.Core.Option.{Option, none, some}
 use native.Mathlib.Omega.{arith}
 use lib.ListN.{length}
 use Rattle.writing.specs.Writers.{Put}
 use Rattle.layout.specs.declared.Mark.the-variants.{NoMark}
-use Rattle.conversions.specs.Kinds.{printsAs}
-use Rattle.conversions.specs.declared.Form.{Form}
-use Rattle.conversions.specs.declared.Form.the-variants as F
+use Rattle.conversions.specs.Kinds.{kindOf, printsAs}
+use Rattle.conversions.specs.declared.Kind.the-variants as K
+use Rattle.conversions.specs.declared.KindByte.{KindByte}
+use Rattle.conversions.specs.declared.KindByte.the-variants.{Known, Unknown}
+use Rattle.conversions.proofs.Tables.{OfByte, form-of}
 use Rattle.specifiers.specs.declared.Element.{Element}
 use Rattle.parsing.specs.declared.Piece.the-variants.{Element as AnElement}
 use Rattle.strings.specs.Cut.{cutTo}
 use Rattle.strings.proofs.Cuts.{cut-again}
 use Rattle.rows.specs.Row.{isNull, kindByteOf, valueOf, namedText}
-use Rattle.rows.specs.Arguments.{Argument}
+use Rattle.rows.specs.Arguments.{Argument, isText, handedOut}
 use Rattle.rows.proofs.Rows.{kinds-length}
 use Rattle.elements.specs.Texts.{Shown, Text, Stops, paddedText, valueText, elementText, textOf, stopOf}
 use Rattle.elements.specs.Sizes.{Sized, sizeOf}
 use Rattle.elements.specs.declared.Size.{Size}
 use Rattle.elements.specs.declared.Size.the-variants as S
-use Rattle.pieces.specs.PieceTexts.{unpadded, shownPiece}
-use Rattle.pieces.specs.Ready.{Ready, shownWith}
+use Rattle.pieces.specs.PieceTexts.{shownPiece}
+use Rattle.pieces.specs.Ready.{Ready, unpadded, shownWith}
 
 -- the size by what stops a text and by its length
 abbrev pub sized : Option ℕ → ℕ → Size
@@ -45,18 +47,21 @@ shown-text (Stops number) e =
 pub put-sized : (d t out : List ℕ) (n : ℕ) → Put d t n out → n < 2 ^ 42 → Sized d (Text t) (S.Bytes n) out
 put-sized d t out n w h = record { size = ap S.Bytes (w .0); below = h; bytes = w .1 }
 
--- a text that is cut already prints as the whole does
-module _ (e : Element) (t : List ℕ) (v : ℕ) where
-  value-cut : (f : Form) (null : Bool) → valueText e f null (cutTo (e .precision) t) v ≡ valueText e f null t v
-  value-cut (F.Integer f w) null = refl
-  value-cut F.HexFloat null = refl
-  value-cut F.Boolean null = refl
-  value-cut F.Text null = ap (λ (u : List ℕ). Text (paddedText e NoMark u)) (cut-again (e .precision) t)
-  value-cut F.NotPrinted null = refl
+-- What is handed out for a kind byte and cut already prints as the whole does: no form but that of kind 7 looks at it.
+module _ (e : Element) (t u : List ℕ) (v k : ℕ) (h : isText k ≡ true → u ≡ t) where
+  pub element-cut : OfByte (λ _. Unit {0}) (kindOf (k % 128)) → elementText e k (cutTo (e .precision) u) v ≡ elementText e k t v
+  unfolding elementText printsAs
+  element-cut =
+      form-of (λ f. valueText e f (isNull k) (cutTo (e .precision) u) v ≡ valueText e f (isNull k) t v) (λ _. Unit {0}) (k % 128) refl (λ f w _. refl) refl refl
+      (λ q. ap (λ (x : List ℕ). Text (paddedText e NoMark x)) (cut-again (e .precision) u ∙ ap (cutTo (e .precision)) (h q)))
+      (e .conversion)
 
-  pub element-cut : (k : ℕ) → elementText e k (cutTo (e .precision) t) v ≡ elementText e k t v
-  unfolding elementText
-  element-cut k = value-cut (printsAs (e .conversion) k) (isNull k)
+any-byte : (b : KindByte) → OfByte (λ _. Unit {0}) b
+any-byte (Known (K.Signed w)) = tt
+any-byte (Known K.Float64) = tt
+any-byte (Known K.Boolean) = tt
+any-byte (Known K.Text) = tt
+any-byte Unknown = tt
 
 module _ (s row : List ℕ) (e : Element) where
   pub argument-in : Ready s row (AnElement e) → Argument row (e .argument)
@@ -68,6 +73,8 @@ module _ (s row : List ℕ) (e : Element) where
 
   -- an element printed from its unpadded text
   pub element-shown : (t : List ℕ) → t ≡ unpadded s row (AnElement e) → shownWith row e t ≡ shownPiece s row (AnElement e)
-  unfolding unpadded shownPiece
+  unfolding unpadded shownPiece handedOut
   element-shown t h =
-      ap (shownWith row e) h ∙ element-cut e (namedText row (e .argument)) (valueOf row (e .argument)) (kindByteOf row (e .argument))
+      let k = kindByteOf row (e .argument) in
+      ap (shownWith row e) h
+      ∙ element-cut e (namedText row (e .argument)) (handedOut row (e .argument)) (valueOf row (e .argument)) k (λ q. simp q) (any-byte (kindOf (k % 128)))

@@ -3,22 +3,14 @@ use Prim.Native.Nat.{ℕ}
 use mathlib.Core.List.{List, [], _∷_}
 use mathlib.Core.Option.{Option}
 use lib.ListN.{take, drop}
-use Rattle.strings.specs.Cut.{cutTo}
 use Rattle.rows.specs.Row.{namedText, kindByteOf, valueOf}
 use Rattle.parsing.specs.declared.Piece.{Piece}
 use Rattle.parsing.specs.declared.Piece.the-variants.{Fixed, Byte, Element as AnElement}
 use Rattle.elements.specs.Texts.{Shown, Text, elementText, textOf, stopOf}
 
--- "The unpadded text of a piece is part of the format or part of the row for fixed text, `%%` and text values under %s, and is handed out from there":
--- of a text value, what its precision leaves, before capitals. A piece that is neither fixed nor of a text has none.
-unfoldable pub unpadded : List ℕ → List ℕ → Piece → List ℕ
-unpadded s row (Fixed begin len) = take len (drop begin s)
-unpadded s row (Byte b) = []
-unpadded s row (AnElement e) = cutTo (e .precision) (namedText row (e .argument))
-
--- Fixed text and `%%` as they are handed out, "`%n` a piece holding byte 10", an element by the row's value under the argument that it takes.
+-- Fixed text and `%%` as they stand in the format, "`%n` a piece holding byte 10", an element by the row's value under the argument that it takes.
 unfoldable pub shownPiece : List ℕ → List ℕ → Piece → Shown
-shownPiece s row (Fixed begin len) = Text (unpadded s row (Fixed begin len))
+shownPiece s row (Fixed begin len) = Text (take len (drop begin s))
 shownPiece s row (Byte b) = Text (b ∷ [])
 shownPiece s row (AnElement e) = elementText e (kindByteOf row (e .argument)) (namedText row (e .argument)) (valueOf row (e .argument))
 

@@ -8,8 +8,8 @@ ghost use Prim.Native.Nat.{_^_, _<_};
 ghost use lib.ListN.{length};
 ghost use Rattle.elements.specs.Sizes.{Sized};
 ghost use Rattle.rows.specs.Arguments.{Argument};
-ghost use Rattle.pieces.specs.PieceTexts.{unpadded, shownPiece};
-ghost use Rattle.pieces.specs.Ready.{Ready, shownWith};
+ghost use Rattle.pieces.specs.PieceTexts.{shownPiece};
+ghost use Rattle.pieces.specs.Ready.{Ready, unpadded, shownWith};
 
 // The unpadded text of a piece, where it is part of the format or of the row; else it is empty.
 fn unpadded_text<'a>(fmt: &'a [u8], row: &'a [u8], piece: Piece) -> &'a [u8]

@@ -3,8 +3,8 @@ use mathlib.Core.Path.{subst, ap, _∙_}
 use native.Mathlib.Omega.{arith}
 use lib.ListN.{length}
 use Rattle.writing.specs.Writers.{laidIfRoom}
-use Rattle.pieces.specs.PieceTexts.{unpadded, shownPiece}
-use Rattle.pieces.specs.Ready.{Ready}
+use Rattle.pieces.specs.PieceTexts.{shownPiece}
+use Rattle.pieces.specs.Ready.{Ready, unpadded}
 use Rattle.pieces.proofs.Pieces.{put-sized, argument-in, element-shown}
 use borrow.Author.Needs.{needs}
 use Rattle.pieces.proofs.put_piece.Statement.{statement}
@@ -40,7 +40,7 @@ same-length : tie.Need-same-length
 same-length c = search needs
 
 returns : tie.Need-returns
-unfolding shownPiece
+unfolding unpadded shownPiece
 returns c =
     let w = c .before .before .put-text .ensures in
     let told = c .before .before .before .before .enum-told .given .1 in

@@ -7,8 +7,7 @@ use lib.ListN.{length, length-take}
 use Rattle.refusals.specs.Limits.{mostFormat}
 use Rattle.strings.specs.Cut.{cutTo}
 use Rattle.strings.proofs.Cuts.{cut-shorter}
-use Rattle.pieces.specs.PieceTexts.{unpadded}
-use Rattle.pieces.specs.Ready.{Ready}
+use Rattle.pieces.specs.Ready.{Ready, unpadded}
 use Rattle.pieces.proofs.Pieces.{argument-in}
 use borrow.Author.Needs.{needs}
 use Rattle.pieces.proofs.unpadded_text.Statement.{statement}
