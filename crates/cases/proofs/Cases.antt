@@ -1,6 +1,7 @@
 -- 01's table of cases holds of the definitions. Assumes nothing.
 use lib.Dec.{T}
 use lib.Ieee.{mul, ofBits, toBits}
+use Rattle.writing.specs.Text.{has}
 use Rattle.numerals.specs.Digits.{digitsIn, placesWithin, places, digits, numberFrom, numberOf, letterOf, lettersOf, numeral}
 use Rattle.numerals.specs.Grouping.{grouped}
 use Rattle.numerals.specs.Integers.{intOf}
@@ -13,7 +14,7 @@ use Rattle.binary64.specs.Rounding.{nearestTo, keptDigits}
 use Rattle.utf8.specs.Utf8.{leadOf, wellFormedFrom, wellFormed}
 use Rattle.conversions.specs.Letters.{smallOf, capitalOf}
 use Rattle.conversions.specs.Kinds.{kindOf, isInteger, integerForm, fitsKind, printsAs}
-use Rattle.specifiers.specs.Flags.{flagOf, flagsFrom}
+use Rattle.specifiers.specs.Flags.{leadingFlags, firstClash, flagsAt}
 use Rattle.specifiers.specs.Specifier.{precisionAt, letterAt, partsAt, specifierAt}
 use Rattle.parsing.specs.Pieces.{indexAt, argumentAt, elementAt, pieceAt}
 use Rattle.parsing.specs.Listed.{placedFrom, endFrom, placed, ended}
@@ -30,7 +31,7 @@ unfolding mul ofBits toBits digitsIn placesWithin places digits numberFrom numbe
     leadingDigits numberTaken numberAt paramAt spaces headText tailText framed spare frameOf padded
     negative exponentField fractionField categoryOf scaledBits shortest rounded hexFloatOf exponentText hexFloatText nearestTo keptDigits
     leadOf wellFormedFrom wellFormed smallOf capitalOf kindOf isInteger integerForm fitsKind printsAs
-    flagOf flagsFrom precisionAt letterAt partsAt specifierAt indexAt argumentAt elementAt pieceAt placedFrom endFrom placed ended
+    has leadingFlags firstClash flagsAt precisionAt letterAt partsAt specifierAt indexAt argumentAt elementAt pieceAt placedFrom endFrom placed ended
     backTo cutLength cutTo cased utf8Of littleEndian wordAt namedText entryAt entriesFrom isRow
     elementText shownPiece textsOf texts joined printedText firstStop measuredEnd measured
 theorem-cases = tt

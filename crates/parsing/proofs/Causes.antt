@@ -18,7 +18,7 @@ use Rattle.numerals.specs.declared.Taken.{Taken}
 use Rattle.numerals.specs.declared.Taken.the-variants.{Param, TooLarge}
 use Rattle.utf8.specs.Utf8.{wellFormed}
 use Rattle.conversions.specs.Kinds.{fitsKind}
-use Rattle.specifiers.specs.Flags.{noFlags, flagsFrom}
+use Rattle.specifiers.specs.Flags.{flagsAt}
 use Rattle.specifiers.specs.Specifier.{beginsWith, precisionAt, letterAt, afterPrecision, afterWidth, afterFlags, partsAt, afterLetter, afterParts, specifierAt}
 use Rattle.specifiers.specs.declared.Flags.{Flags}
 use Rattle.specifiers.specs.declared.FlagsTaken.{FlagsTaken}
@@ -61,7 +61,7 @@ module _ (s ks : List ℕ) (c : Cursor) where
 
   -- an element that takes the argument a, read part by part
   module _ (a next : ℕ) (takes : Takes s c a next) (few : a ≤ length ks) where
-    module _ (f : Flags) (w : ℕ) (flags : flagsFrom (drop next s) next noFlags ≡ F.Read f w) where
+    module _ (f : Flags) (w : ℕ) (flags : flagsAt s next ≡ F.Read f w) where
       letter-caused : (x y : NumericParam) (p l : ℕ) → paramAt false s w ≡ Param x p → precisionAt s p ≡ Param y l
           → (t : LetterTaken) → letterAt s l ≡ t → Caused (afterLetter a (getD ks (a - 1) 0) (record { flags = f; width = x; precision = y }) t)
       letter-caused x y p l width precision (L.Read t u end) e =
@@ -77,13 +77,13 @@ module _ (s ks : List ℕ) (c : Cursor) where
       width-caused (Param x p) e = precision-caused x p e (precisionAt s p) refl
       width-caused TooLarge e = K.width takes few flags e
 
-    flags-caused : (t : FlagsTaken) → flagsFrom (drop next s) next noFlags ≡ t → Caused (afterParts s a (getD ks (a - 1) 0) (afterFlags s t))
+    flags-caused : (t : FlagsTaken) → flagsAt s next ≡ t → Caused (afterParts s a (getD ks (a - 1) 0) (afterFlags s t))
     flags-caused (F.Read f w) e = width-caused f w e (paramAt false s w) refl
     flags-caused (F.Refused n) e = K.flags takes few e
 
     specifier-caused : Caused (specifierAt s next a (getD ks (a - 1) 0))
     unfolding specifierAt partsAt
-    specifier-caused = flags-caused (flagsFrom (drop next s) next noFlags) refl
+    specifier-caused = flags-caused (flagsAt s next) refl
 
   element-caused : (x : Index) → IndexCaused x → StepCaused (afterIndex s ks x)
   element-caused (I.Named a next count) h = read (specifierAt s next a (getD ks (a - 1) 0)) (specifier-caused a next (h .0) (h .1))

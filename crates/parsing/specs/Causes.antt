@@ -14,7 +14,7 @@ use Rattle.numerals.specs.declared.Taken.the-variants.{Param, TooLarge}
 use Rattle.utf8.specs.Utf8.{wellFormed}
 use Rattle.conversions.specs.Kinds.{fitsKind}
 use Rattle.conversions.specs.declared.ConversionType.{ConversionType}
-use Rattle.specifiers.specs.Flags.{noFlags, flagsFrom}
+use Rattle.specifiers.specs.Flags.{flagsAt}
 use Rattle.specifiers.specs.Specifier.{beginsWith, precisionAt, letterAt}
 use Rattle.specifiers.specs.declared.Flags.{Flags}
 use Rattle.specifiers.specs.declared.FlagsTaken.the-variants as F
@@ -47,16 +47,16 @@ pub data Fault (s ks : List ℕ) (c : Cursor) : ℕ → Type 0 where
   no-index : Percent s c → Then s c "$" true → Fault s ks c 5
   large-index : Percent s c → isIndex s (c .at + 1) ≡ true → largestNumber < numberOf 10 (leadingDigits (drop (c .at + 1) s)) → Fault s ks c 6
   above : {a next : ℕ} → Takes s c a next → length ks < a → Fault s ks c 7
-  flags : {a next number : ℕ} → Takes s c a next → a ≤ length ks → flagsFrom (drop next s) next noFlags ≡ F.Refused number → Fault s ks c number
-  width : {a next w : ℕ} {f : Flags} → Takes s c a next → a ≤ length ks → flagsFrom (drop next s) next noFlags ≡ F.Read f w
+  flags : {a next number : ℕ} → Takes s c a next → a ≤ length ks → flagsAt s next ≡ F.Refused number → Fault s ks c number
+  width : {a next w : ℕ} {f : Flags} → Takes s c a next → a ≤ length ks → flagsAt s next ≡ F.Read f w
       → paramAt false s w ≡ TooLarge → Fault s ks c 6
   precision : {a next w p : ℕ} {f : Flags} {x : NumericParam} → Takes s c a next → a ≤ length ks
-      → flagsFrom (drop next s) next noFlags ≡ F.Read f w → paramAt false s w ≡ Param x p → precisionAt s p ≡ TooLarge → Fault s ks c 6
+      → flagsAt s next ≡ F.Read f w → paramAt false s w ≡ Param x p → precisionAt s p ≡ TooLarge → Fault s ks c 6
   letter : {a next w p l number : ℕ} {f : Flags} {x y : NumericParam} → Takes s c a next → a ≤ length ks
-      → flagsFrom (drop next s) next noFlags ≡ F.Read f w → paramAt false s w ≡ Param x p → precisionAt s p ≡ Param y l
+      → flagsAt s next ≡ F.Read f w → paramAt false s w ≡ Param x p → precisionAt s p ≡ Param y l
       → letterAt s l ≡ L.Refused number → Fault s ks c number
   fit : {a next w p l end : ℕ} {f : Flags} {x y : NumericParam} {t : ConversionType} {u : Bool} → Takes s c a next → a ≤ length ks
-      → flagsFrom (drop next s) next noFlags ≡ F.Read f w → paramAt false s w ≡ Param x p → precisionAt s p ≡ Param y l
+      → flagsAt s next ≡ F.Read f w → paramAt false s w ≡ Param x p → precisionAt s p ≡ Param y l
       → letterAt s l ≡ L.Read t u end → fitsKind t (getD ks (a - 1) 0) ≡ false → Fault s ks c 12
 
 -- The cursors that reading comes to, each with the number of pieces before it.

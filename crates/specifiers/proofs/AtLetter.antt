@@ -2,43 +2,38 @@
 use mathlib.Core.Path.{_≡_, refl}
 use mathlib.Core.Bool.{true, false}
 use mathlib.Core.List.{List, [], _∷_}
-use Prim.Native.Nat.{ℕ, _≤_, _<_}
+use Prim.Native.Nat.{ℕ, _≤_}
 use Prim.Native.Char.{code}
+use native.Mathlib.Nat.{add-zero}
 use native.Mathlib.Omega.{arith}
-use lib.Dec.{eqb}
 use lib.ListN.{drop}
 use borrow.Author.Tests.{leb-true, ne-eqb, le-leb, lt-leb}
+use Rattle.writing.specs.Text.{has}
 use Rattle.numerals.specs.Params.{isParam, paramAt}
 use Rattle.numerals.specs.declared.NumericParam.the-variants.{FromArgument}
-use Rattle.specifiers.specs.Flags.{noFlags, flagOf, flagsFrom}
+use Rattle.specifiers.specs.Flags.{isFlag, leadingFlags, flagsOf, firstClash, flagsAt}
 use Rattle.specifiers.specs.Specifier.{beginsWith, precisionAt, partsAt}
 use Rattle.specifiers.specs.Refusals.{beginsLetter}
-use Rattle.specifiers.specs.declared.Flags.{Flags}
-use Rattle.specifiers.specs.declared.FlagStep.the-variants.{Stops}
-use Rattle.specifiers.specs.declared.FlagStop.the-variants.{NoFlag}
-use Rattle.specifiers.specs.declared.FlagsTaken.the-variants as F
 use Rattle.specifiers.specs.declared.PartsTaken.the-variants as P
+use Rattle.specifiers.proofs.Bytes.{other}
 
-other : (b k : ℕ) → k < b → eqb b k ≡ false
-other b k h = ne-eqb b k (λ e. omega arith)
-
-no-flag : (f : Flags) (b : ℕ) → code "A" ≤ b → flagOf f b ≡ Stops NoFlag
-unfolding flagOf
-no-flag f b h =
+no-flag : (b : ℕ) → code "A" ≤ b → isFlag b ≡ false
+unfolding has
+no-flag b h =
     simp (
-      other b (code "#") (omega arith),
-      other b (code "0") (omega arith),
-      other b (code "-") (omega arith),
-      other b (code " ") (omega arith),
-      other b (code "+") (omega arith),
-      other b (code ",") (omega arith),
-      other b (code "(") (omega arith),
+      other (code "#") b (λ e. omega arith),
+      other (code "0") b (λ e. omega arith),
+      other (code "-") b (λ e. omega arith),
+      other (code " ") b (λ e. omega arith),
+      other (code "+") b (λ e. omega arith),
+      other (code ",") b (λ e. omega arith),
+      other (code "(") b (λ e. omega arith),
     )
 
-no-flags : (l : List ℕ) (at : ℕ) (f : Flags) → beginsLetter l ≡ true → flagsFrom l at f ≡ F.Read f at
-unfolding flagsFrom
-no-flags [] at f h = refl
-no-flags (b ∷ l) at f h = simp (no-flag f b (leb-true (code "A") b h))
+no-flags : (l : List ℕ) → beginsLetter l ≡ true → leadingFlags l ≡ []
+unfolding leadingFlags
+no-flags [] h = refl
+no-flags (b ∷ l) h = simp (no-flag b (leb-true (code "A") b h))
 
 no-width : (l : List ℕ) → beginsLetter l ≡ true → isParam false l ≡ false
 no-width [] h = refl
@@ -50,9 +45,9 @@ no-point : (l : List ℕ) → beginsLetter l ≡ true → beginsWith (code ".") 
 no-point [] h = refl
 no-point (b ∷ l) h =
     let k = leb-true (code "A") b h in
-    other b (code ".") (omega arith)
+    ne-eqb b (code ".") (λ e. omega arith)
 
 pub no-parts : (s : List ℕ) (at : ℕ) → beginsLetter (drop at s) ≡ true
-    → partsAt s at ≡ P.Read (record { flags = noFlags; width = FromArgument; precision = FromArgument }) at
-unfolding partsAt paramAt precisionAt
-no-parts s at h = simp (no-flags (drop at s) at noFlags h, no-width (drop at s) h, no-point (drop at s) h)
+    → partsAt s at ≡ P.Read (record { flags = flagsOf []; width = FromArgument; precision = FromArgument }) at
+unfolding partsAt flagsAt firstClash paramAt precisionAt
+no-parts s at h = simp (no-flags (drop at s) h, add-zero at, no-width (drop at s) h, no-point (drop at s) h)

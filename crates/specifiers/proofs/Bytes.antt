@@ -9,7 +9,12 @@ use native.Mathlib.Omega.{arith}
 use lib.Dec.{eqb}
 use lib.ListN.{length, getD, drop, drop-of-length-le}
 use lib.Seq.{drop-cons}
+use borrow.Author.Tests.{ne-eqb}
 use Rattle.specifiers.specs.Specifier.{beginsWith}
+
+-- a byte that is not c
+pub other : (c b : ℕ) → (b ≡ c → ⊥) → eqb c b ≡ false
+other c b n = ne-eqb c b (λ e. n (sym e))
 
 -- the text from a place on: its first byte and the rest, or nothing
 pub byte-at : (s : List ℕ) (i : ℕ) → i < length s → drop i s ≡ getD s i 0 ∷ drop (i + 1) s

@@ -1,6 +1,7 @@
 -- What a specifier reads lies in the format: each step goes forward, and the whole ends behind its letter. Assumes nothing.
 use mathlib.Core.Bool.{Bool, true, false}
 use mathlib.Core.List.{List, [], _∷_}
+use mathlib.Core.Option.{Option, none, some}
 use Prim.Native.Nat.{ℕ, _+_, _≤_, _<_}
 use Prim.Native.Char.{code}
 use native.Mathlib.Decide.{decLt}
@@ -21,14 +22,11 @@ use Rattle.conversions.specs.declared.Letter.{Letter}
 use Rattle.conversions.specs.declared.Letter.the-variants.{Conversion, NoConversion}
 use Rattle.conversions.specs.declared.TimeLetter.{TimeLetter}
 use Rattle.conversions.specs.declared.TimeLetter.the-variants.{Component, NoComponent}
-use Rattle.specifiers.specs.Flags.{noFlags, flagOf, afterFlag, flagsFrom}
+use Rattle.specifiers.specs.Flags.{leadingFlags, firstClash, flagsTaken, flagsAt}
 use Rattle.specifiers.specs.Specifier.{beginsWith, precisionAt, afterPrecision, afterWidth, afterFlags, partsAt}
 use Rattle.specifiers.specs.Specifier.{capitalLetter, oneLetter, timeLetter, secondLetter, letterFrom, letterAt}
 use Rattle.specifiers.specs.Specifier.{afterLetter, afterParts, specifierAt}
 use Rattle.specifiers.specs.declared.Flags.{Flags}
-use Rattle.specifiers.specs.declared.FlagStep.{FlagStep}
-use Rattle.specifiers.specs.declared.FlagStep.the-variants.{Set, Stops}
-use Rattle.specifiers.specs.declared.FlagStop.the-variants.{NoFlag, Clash}
 use Rattle.specifiers.specs.declared.FlagsTaken.{FlagsTaken}
 use Rattle.specifiers.specs.declared.FlagsTaken.the-variants as F
 use Rattle.specifiers.specs.declared.LetterTaken.{LetterTaken}
@@ -70,19 +68,13 @@ abbrev FlagsOn : ℕ → FlagsTaken → Type 0
 FlagsOn at (F.Read f next) = at ≤ next
 FlagsOn at (F.Refused number) = Unit {0}
 
-flags-on : (l : List ℕ) (at : ℕ) (f : Flags) → FlagsOn at (flagsFrom l at f)
-unfolding flagsFrom
-flags-on [] at f = omega arith
-flags-on (b ∷ l) at f = go (flagOf f b) (λ g. flags-on l (at + 1) g)
+flags-on : (s : List ℕ) (at : ℕ) → FlagsOn at (flagsAt s at)
+unfolding flagsAt
+flags-on s at = taken (firstClash [] (leadingFlags (drop at s))) (leadingFlags (drop at s))
   where
-    behind : (t : FlagsTaken) → FlagsOn (at + 1) t → FlagsOn at t
-    behind (F.Read g next) h = omega arith
-    behind (F.Refused n) h = tt
-
-    go : (x : FlagStep) → ((g : Flags) → FlagsOn (at + 1) (flagsFrom l (at + 1) g)) → FlagsOn at (afterFlag x (λ g. flagsFrom l (at + 1) g) at f)
-    go (Set g) ih = behind (flagsFrom l (at + 1) g) (ih g)
-    go (Stops NoFlag) ih = omega arith
-    go (Stops (Clash n)) ih = tt
+    taken : (x : Option ℕ) (bs : List ℕ) → FlagsOn at (flagsTaken x bs at)
+    taken none bs = omega arith
+    taken (some number) bs = tt
 
 -- A letter ends behind the place where it begins, inside the format.
 abbrev LetterIn : ℕ → ℕ → LetterTaken → Type 0
@@ -144,7 +136,7 @@ module _ (s : List ℕ) (at : ℕ) where
 
   parts-on : PartsOn at (partsAt s at)
   unfolding partsAt
-  parts-on = from-flags (flagsFrom (drop at s) at noFlags) (flags-on (drop at s) at noFlags)
+  parts-on = from-flags (flagsAt s at) (flags-on s at)
 
   module _ (a k : ℕ) where
     from-letter : (x : Parts) (l : ℕ) → at ≤ l → (t : LetterTaken) → LetterIn (length s) l t

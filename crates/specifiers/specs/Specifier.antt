@@ -19,7 +19,7 @@ use Rattle.conversions.specs.declared.Letter.{Letter}
 use Rattle.conversions.specs.declared.Letter.the-variants.{Conversion, NoConversion}
 use Rattle.conversions.specs.declared.TimeLetter.{TimeLetter}
 use Rattle.conversions.specs.declared.TimeLetter.the-variants.{Component, NoComponent}
-use Rattle.specifiers.specs.Flags.{noFlags, flagsFrom}
+use Rattle.specifiers.specs.Flags.{flagsAt}
 use Rattle.specifiers.specs.declared.Flags.{Flags}
 use Rattle.specifiers.specs.declared.FlagsTaken.{FlagsTaken}
 use Rattle.specifiers.specs.declared.FlagsTaken.the-variants as F
@@ -83,7 +83,7 @@ afterFlags s (F.Read f at) = afterWidth s f (paramAt false s at)
 afterFlags s (F.Refused number) = P.Refused number
 
 unfoldable pub partsAt : List ℕ → ℕ → PartsTaken
-partsAt s at = afterFlags s (flagsFrom (drop at s) at noFlags)
+partsAt s at = afterFlags s (flagsAt s at)
 
 -- The element of the argument a, whose kind's byte is k, read from the place at on: these, the letter, and 12 where the "letter does not fit the kind".
 abbrev pub fitted : ℕ → ℕ → Parts → ConversionType → Bool → ℕ → Specifier

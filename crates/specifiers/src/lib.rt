@@ -6,11 +6,12 @@ use conversions::TimeLetter;
 use numerals::NumericParam;
 use numerals::Taken;
 ghost use mathlib.Core.Path.{_≡_};
-ghost use Prim.Native.Nat.{_<_};
+ghost use mathlib.Core.List.{List, []};
+ghost use Prim.Native.Nat.{ℕ, _<_};
 ghost use lib.ListN.{length, drop};
-ghost use Rattle.specifiers.specs.Flags.{flagOf, flagsFrom, noFlags};
+ghost use Rattle.specifiers.specs.Flags.{flagsOf, flagsAt};
 ghost use Rattle.specifiers.specs.Specifier.{beginsWith, precisionAt, timeLetterAt, letterAt, partsAt, specifierAt};
-ghost use Rattle.specifiers.specs.Refusals.{beginsLetter, StopHanded, FlagsHanded, PartsHanded, LetterHanded};
+ghost use Rattle.specifiers.specs.Refusals.{beginsLetter, stepOf, StopHanded, FlagsHanded, PartsHanded, LetterHanded};
 
 // The flags that were read. The original's names are alt_form, zero_pad, left_adj, space_sign, force_sign, grouping_separator and
 // negative_in_parentheses; a definition can name a field plainly only where it is one word.
@@ -79,9 +80,9 @@ pub enum Specifier {
     Refused { number: u8 },
 }
 
-// One flag more.
+// One flag more: b behind any flags that give f.
 fn with_flag(f: Flags, b: u8) -> FlagStep
-    ensures { λ r. ⌜ r ≡ flagOf f b ⌝ }
+    ensures { λ r. ⌜ ((before : List ℕ) → f ≡ flagsOf before → r ≡ stepOf before b) ⌝ }
 {
     let mut g = f;
     match b {
@@ -130,7 +131,7 @@ fn with_flag(f: Flags, b: u8) -> FlagStep
 }
 
 fn no_flags() -> Flags
-    ensures { λ r. ⌜ r ≡ noFlags ⌝ }
+    ensures { λ r. ⌜ r ≡ flagsOf [] ⌝ }
 {
     Flags {
         alternate: false,
@@ -163,7 +164,7 @@ fn flags_stop(step: FlagStep, flags: Flags, at: usize) -> FlagsTaken
 
 // The flags from the place at on.
 fn take_flags(fmt: &[u8], at: usize) -> FlagsTaken
-    ensures { λ r. ⌜ r ≡ flagsFrom (drop at (now (fmt .entry))) at noFlags ⌝ }
+    ensures { λ r. ⌜ r ≡ flagsAt (now (fmt .entry)) at ⌝ }
 {
     let mut i = at;
     let mut flags = no_flags();

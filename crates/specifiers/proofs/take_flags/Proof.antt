@@ -1,11 +1,9 @@
--- `specifiers::take_flags` meets its contract. The loop's invariant: the flags from i on, after those read, are the flags of the whole. Assumes nothing.
-use Prim.Native.Nat.{_+_, _-_}
-use mathlib.Core.Path.{_≡_, ap, _∙_}
-use lib.ListN.{length, drop}
+-- `specifiers::take_flags` meets its contract. The loop's invariant: the flags up to i are read, and say what the code's say. Assumes nothing.
+use Prim.Native.Nat.{_-_}
+use lib.ListN.{length}
 use native.Mathlib.Omega.{arith}
 use borrow.Author.Needs.{needs}
-use Rattle.specifiers.specs.Flags.{noFlags, afterFlag, flagsFrom}
-use Rattle.specifiers.proofs.Runs.{FlagsTo, flags-end, flags-turn}
+use Rattle.specifiers.proofs.Runs.{FlagsTo, flags-none, flags-end, Turned, flags-turn}
 use Rattle.specifiers.proofs.take_flags.Statement.{statement}
 use Rattle.specifiers.proofs.take_flags.Tie as tie
 
@@ -18,28 +16,28 @@ abbrev μ-loop : tie.MeasureT-loop
 loop-holds : tie.Need-loop-holds Inv-loop μ-loop
 loop-holds c =
     let from = c .before .before .args in
-    ap (flagsFrom (drop (from .at) (from .fmt .now)) (from .at)) (c .no-flags .ensures)
+    rw (c .no-flags .ensures) (flags-none (from .fmt .now) (from .at))
 
 -- one byte more
 turn : (c : tie.After-with-flag Inv-loop μ-loop) →
     let at-loop = c .before .before .before in
     let from = at-loop .before .before .before .args in
-    let i = at-loop .loop .i in
-    afterFlag (c .with-flag .result) (flagsFrom (drop (i + 1) (from .fmt .now)) (i + 1)) i (at-loop .loop .flags)
-    ≡ flagsFrom (drop (from .at) (from .fmt .now)) (from .at) noFlags
+    let l = at-loop .loop in
+    Turned (from .fmt .now) (from .at) (l .i) (l .flags) (c .with-flag .result)
 turn c =
     let at-loop = c .before .before .before in
     let from = at-loop .before .before .before .args in
     let l = at-loop .loop in
-    flags-turn (from .fmt .now) (from .at) (l .i) (l .flags) (l .inv) (omega arith) (c .with-flag .result) (c .with-flag .ensures)
+    flags-turn (from .fmt .now) (from .at) (l .i) (l .flags) (l .inv) (omega arith) (c .with-flag .result)
+    (c .with-flag .ensures (l .inv .before) (l .inv .said))
 
 loop-again : tie.Need-loop-again Inv-loop μ-loop
-loop-again c = simp (c .before .step .given .1) at (turn (c .before .before .before))
+loop-again c = rw (c .before .step .given .1) at (turn (c .before .before .before))
 
 returns : tie.Need-returns Inv-loop μ-loop
 returns c =
     let told = c .before .enum-told .given .1 in
-    (simp told at (c .flags-stop .ensures)) ∙ (simp told at (turn (c .before .before .before)))
+    (rw told at (turn (c .before .before .before))) _ (rw told at (c .flags-stop .ensures))
 
 returns-2 : tie.Need-returns-2 Inv-loop μ-loop
 returns-2 c =
