@@ -16,7 +16,7 @@ use borrow.Author.Tests.{eq-eqb, ne-eqb}
 use Rattle.writing.specs.Choose.{choose}
 use Rattle.binary64.specs.Fields.{negative, exponentField, fractionField, categoryOf, significand, units}
 use Rattle.binary64.specs.declared.FpCategory.{FpCategory}
-use Rattle.binary64.specs.declared.FpCategory.the-variants.{Nan, Infinite, Zero, Subnormal, Normal}
+use Rattle.binary64.specs.declared.FpCategory.the-variants.{Nan, Infinite, Finite}
 
 pub field-bounds : (b : ℕ) → (exponentField b < 2048) × (fractionField b < 2 ^ 52)
 unfolding exponentField fractionField
@@ -50,21 +50,11 @@ nan-is b w e n = by-fields b ∙ simp (e, ne-eqb _ _ n)
 abbrev pub Stands : FpCategory → ℕ → Type 0
 Stands Nan b = ofBits binary64 b ≡ nan
 Stands Infinite b = ofBits binary64 b ≡ inf (negative b)
-Stands Zero b = HasValue (ofBits binary64 b) (negative b) 0 (2 ^ 1074)
-Stands Subnormal b = HasValue (ofBits binary64 b) (negative b) (units b) (2 ^ 1074) × (0 < units b)
-Stands Normal b = HasValue (ofBits binary64 b) (negative b) (units b) (2 ^ 1074) × (0 < units b)
+Stands Finite b = HasValue (ofBits binary64 b) (negative b) (units b) (2 ^ 1074)
 
 pub units-zero : (b : ℕ) → exponentField b ≡ 0 → units b ≡ fractionField b
 unfolding units significand
 units-zero b e = simp (e, mul-one)
-
-units-pos : (b : ℕ) → 0 < significand b → 0 < units b
-unfolding units
-units-pos b h = mul-pos h (pow-pos (exponentField b - 1))
-
-normal-pos : (b : ℕ) → (exponentField b ≡ 0 → ⊥) → 0 < significand b
-unfolding significand
-normal-pos b n = simp (ne-eqb _ _ n) (omega arith)
 
 pub value-of : (b : ℕ) → b < 2 ^ 64 → Stands (categoryOf b) b
 unfolding categoryOf
@@ -73,16 +63,7 @@ value-of b w =
       | yes e ↦
           elim (ℕ-discrete (fractionField b) 0)
           [ yes f ↦ simp (eq-eqb _ _ e, eq-eqb _ _ f) (infinite-is b w e f) | no f ↦ simp (eq-eqb _ _ e, ne-eqb _ _ f) (nan-is b w e f) ]
-      | no n ↦
-          let v = finite-value b w (omega (arith, field-bounds b .0)) in
-          elim (ℕ-discrete (exponentField b) 0) [
-            | yes e ↦
-                elim (ℕ-discrete (fractionField b) 0) [
-                  | yes f ↦ simp (ne-eqb _ _ n, eq-eqb _ _ e, eq-eqb _ _ f) (rw (units-zero b e ∙ f) at v)
-                  | no f ↦ simp (ne-eqb _ _ n, eq-eqb _ _ e, ne-eqb _ _ f) (v, omega (arith, units-zero b e))
-                ]
-            | no m ↦ simp (ne-eqb _ _ n, ne-eqb _ _ m) (v, units-pos b (normal-pos b m))
-          ]
+      | no n ↦ simp (ne-eqb _ _ n) (finite-value b w (omega (arith, field-bounds b .0)))
     ]
 
 -- the exponent field of a finite value is below 2047

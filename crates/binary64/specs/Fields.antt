@@ -6,7 +6,7 @@ use lib.Dec.{leb, eqb}
 use lib.Ieee.{binary64, ofBits, toBits, mul}
 use Rattle.writing.specs.Choose.{choose}
 use Rattle.binary64.specs.declared.FpCategory.{FpCategory}
-use Rattle.binary64.specs.declared.FpCategory.the-variants.{Nan, Infinite, Zero, Subnormal, Normal}
+use Rattle.binary64.specs.declared.FpCategory.the-variants.{Nan, Infinite, Finite}
 
 -- S
 unfoldable pub negative : ℕ → Bool
@@ -23,9 +23,7 @@ fractionField b = b % 2 ^ 52
 -- IEEE 754-2019, 3.4, a) to e): what E and T say.
 unfoldable pub categoryOf : ℕ → FpCategory
 categoryOf b =
-    choose (eqb (exponentField b) 2047)
-    (λ _. choose (eqb (fractionField b) 0) (λ _. Infinite) (λ _. Nan))
-    (λ _. choose (eqb (exponentField b) 0) (λ _. choose (eqb (fractionField b) 0) (λ _. Zero) (λ _. Subnormal)) (λ _. Normal))
+    choose (eqb (exponentField b) 2047) (λ _. choose (eqb (fractionField b) 0) (λ _. Infinite) (λ _. Nan)) (λ _. Finite)
 
 -- The significand as a whole number of 2 ^ -52: T with the leading 1, which a biased exponent of 0 does not have.
 unfoldable pub significand : ℕ → ℕ

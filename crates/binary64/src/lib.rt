@@ -29,13 +29,11 @@ pub fn to_parts(bits: u64) -> FloatParts
     }
 }
 
-// The kinds of value, by the names of the original's standard library.
+// The kinds of value; the original's standard library tells apart three that are finite.
 pub enum FpCategory {
     Nan,
     Infinite,
-    Zero,
-    Subnormal,
-    Normal,
+    Finite,
 }
 
 pub fn category(bits: u64) -> FpCategory
@@ -50,13 +48,7 @@ pub fn category(bits: u64) -> FpCategory
         }
         return FpCategory::Nan;
     }
-    if exponent == 0 {
-        if mantissa == 0 {
-            return FpCategory::Zero;
-        }
-        return FpCategory::Subnormal;
-    }
-    FpCategory::Normal
+    FpCategory::Finite
 }
 
 // A positive subnormal value times 2 to the 54th, as an f64 product. It is exact: see proofs/Scaled.antt.

@@ -63,6 +63,4 @@ pub float-read : (e : Element) (c : FpCategory) (v : ℕ)
     → FiniteRead c v (e .precision) (readPiece (floatLetter (e .upper)) (floatText e c v))
 float-read e C.Nan v = tt
 float-read e C.Infinite v = tt
-float-read e C.Zero v = finite-read e v
-float-read e C.Subnormal v = finite-read e v
-float-read e C.Normal v = finite-read e v
+float-read e C.Finite v = finite-read e v

@@ -48,9 +48,7 @@ pub record FloatRead (b : ℕ) (p : NumericParam) (r : Reading) : Type 0 where
 abbrev pub FiniteRead : FpCategory → ℕ → NumericParam → Reading → Type 0
 FiniteRead C.Nan b p r = Unit {0}
 FiniteRead C.Infinite b p r = Unit {0}
-FiniteRead C.Zero b p r = FloatRead b p r
-FiniteRead C.Subnormal b p r = FloatRead b p r
-FiniteRead C.Normal b p r = FloatRead b p r
+FiniteRead C.Finite b p r = FloatRead b p r
 
 -- The bytes t of an integer that is not null, and of any value in its form; what is neither a numeral nor a float is not read back.
 abbrev pub IntegerRead : Element → IntegerForm → ℕ → ℕ → List ℕ → Type 0

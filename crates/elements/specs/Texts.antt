@@ -121,9 +121,7 @@ finiteText e v =
 abbrev pub floatText : Element → FpCategory → ℕ → List ℕ
 floatText e C.Nan v = paddedText e NoMark (ascii "NaN")
 floatText e C.Infinite v = paddedText e (floatMark (e .flags) (negative v)) (ascii "Infinity")
-floatText e C.Zero v = finiteText e v
-floatText e C.Subnormal v = finiteText e v
-floatText e C.Normal v = finiteText e v
+floatText e C.Finite v = finiteText e v
 
 -- A value in its form, null or not; `part` is the text that a value of kind 7 names. "Null prints `null` through `format_string` for all of these"
 -- integers; "Null Boolean prints `false`", its value being 0. 15 for a letter that is not printed for the kind.

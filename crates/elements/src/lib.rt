@@ -361,9 +361,7 @@ fn format_hex_float(out: &mut [u8], e: Element, bits: u64) -> u64
             let parts = binary64::to_parts(bits);
             put_padded(out, e, float_mark(flags, parts.negative), b"Infinity")
         }
-        FpCategory::Zero => format_finite(out, e, bits),
-        FpCategory::Subnormal => format_finite(out, e, bits),
-        FpCategory::Normal => format_finite(out, e, bits),
+        FpCategory::Finite => format_finite(out, e, bits),
     }
 }
 

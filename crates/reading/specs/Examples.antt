@@ -21,7 +21,7 @@ use Rattle.layout.specs.declared.Prefix.the-variants.{NoPrefix, Octal, HexLower
 use Rattle.layout.specs.declared.Adjust.the-variants.{Right, Left, Zeros}
 use Rattle.binary64.specs.Fields.{negative, exponentField, fractionField, categoryOf, units, scaledBits}
 use Rattle.binary64.specs.declared.FpCategory.{FpCategory}
-use Rattle.binary64.specs.declared.FpCategory.the-variants.{Nan, Infinite, Zero, Subnormal, Normal}
+use Rattle.binary64.specs.declared.FpCategory.the-variants.{Nan, Infinite, Finite}
 use Rattle.binary64.specs.Rounding.{nearestTo, keptDigits}
 use Rattle.binary64.specs.HexFloat.{hexFloatOf, hexFloatText}
 use Rattle.reading.specs.Kept.{kept}
@@ -51,9 +51,7 @@ shownReading (Float r) = shownSign (r .negative) ++ (decimal (r .m) ++ (code " "
 abbrev pub shownCategory : FpCategory → List ℕ
 shownCategory Nan = ascii "NaN"
 shownCategory Infinite = ascii "infinite"
-shownCategory Zero = ascii "zero"
-shownCategory Subnormal = ascii "subnormal"
-shownCategory Normal = ascii "normal"
+shownCategory Finite = ascii "finite"
 
 pub record Row : Type 0 where
   pub given : List ℕ
@@ -88,9 +86,8 @@ rows =
     ∷ record { given = shownSign (negative 0x8000_0000_0000_0000); text = "-" }
     ∷ record { given = shownCategory (categoryOf 0x7ff0_0000_0000_0001); text = "NaN" }
     ∷ record { given = shownCategory (categoryOf 0xfff0_0000_0000_0000); text = "infinite" }
-    ∷ record { given = shownCategory (categoryOf 0x8000_0000_0000_0000); text = "zero" }
-    ∷ record { given = shownCategory (categoryOf 0x000f_ffff_ffff_ffff); text = "subnormal" }
-    ∷ record { given = shownCategory (categoryOf 0x0010_0000_0000_0000); text = "normal" }
+    ∷ record { given = shownCategory (categoryOf 0x8000_0000_0000_0000); text = "finite" }
+    ∷ record { given = shownCategory (categoryOf 0x7fef_ffff_ffff_ffff); text = "finite" }
     ∷ record { given = decimal (exponentField 0x3ff0_0000_0000_0000); text = "1023" }
     ∷ record { given = decimal (fractionField 0x3ff8_0000_0000_0000); text = "2251799813685248" }
     ∷ record { given = decimal (units 0x0020_0000_0000_0001); text = "9007199254740994" }

@@ -22,22 +22,7 @@ returns-2 c =
 
 returns-3 : tie.Need-returns-3
 unfolding categoryOf
-returns-3 c =
-    let e = c .before .before .before .to-parts .ensures in
-    simp (← e .1, ← e .2, ne-eqb _ _ (c .before .before .if1 .left), eq-eqb _ _ (c .before .if3 .taken), eq-eqb _ _ (c .if4 .taken))
-
-returns-4 : tie.Need-returns-4
-unfolding categoryOf
-returns-4 c =
-    let e = c .before .before .before .to-parts .ensures in
-    simp (← e .1, ← e .2, ne-eqb _ _ (c .before .before .if1 .left), eq-eqb _ _ (c .before .if3 .taken), ne-eqb _ _ (c .if4 .left))
-
-returns-5 : tie.Need-returns-5
-unfolding categoryOf
-returns-5 c =
-    let e = c .before .before .to-parts .ensures in
-    simp (← e .1, ne-eqb _ _ (c .before .if1 .left), ne-eqb _ _ (c .if3 .left))
+returns-3 c = simp (← c .before .to-parts .ensures .1, ne-eqb _ _ (c .if1 .left))
 
 pub category-spec : {M : Type 1} → statement M
-category-spec =
-    tie.close (tie.spec to-parts-requires returns returns-2 returns-3 returns-4 returns-5)
+category-spec = tie.close (tie.spec to-parts-requires returns returns-2 returns-3)

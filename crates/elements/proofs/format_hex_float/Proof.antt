@@ -36,18 +36,6 @@ enum-told-3 c = search needs
 format-finite-requires : tie.Need-format-finite-requires
 format-finite-requires c κs = search needs
 
-enum-told-4 : tie.Need-enum-told-4
-enum-told-4 c = search needs
-
-format-finite-requires-2 : tie.Need-format-finite-requires-2
-format-finite-requires-2 c κs = search needs
-
-enum-told-5 : tie.Need-enum-told-5
-enum-told-5 c = search needs
-
-format-finite-requires-3 : tie.Need-format-finite-requires-3
-format-finite-requires-3 c κs = search needs
-
 same-length : tie.Need-same-length
 same-length c = search needs
 
@@ -82,24 +70,6 @@ returns-3 c =
     let told = put .before .before in
     simp (← told .before .before .category .ensures, told .enum-told3 .given .1) (put .format-finite .ensures)
 
-same-length-4 : tie.Need-same-length-4
-same-length-4 c = search needs
-
-returns-4 : tie.Need-returns-4
-returns-4 c =
-    let put = c .before .before in
-    let told = put .before .before in
-    simp (← told .before .before .category .ensures, told .enum-told4 .given .1) (put .format-finite2 .ensures)
-
-same-length-5 : tie.Need-same-length-5
-same-length-5 c = search needs
-
-returns-5 : tie.Need-returns-5
-returns-5 c =
-    let put = c .before .before in
-    let told = put .before .before in
-    simp (← told .before .before .category .ensures, told .enum-told5 .given .1) (put .format-finite3 .ensures)
-
 pub format-hex-float-spec : {M : Type 1} → statement M
 format-hex-float-spec =
     tie.close
@@ -115,17 +85,9 @@ format-hex-float-spec =
     put-padded-requires-2
     enum-told-3
     format-finite-requires
-    enum-told-4
-    format-finite-requires-2
-    enum-told-5
-    format-finite-requires-3
     same-length
     returns
     same-length-2
     returns-2
     same-length-3
-    returns-3
-    same-length-4
-    returns-4
-    same-length-5
-    returns-5)
+    returns-3)
