@@ -2,8 +2,8 @@
 use Prim.Native.Nat.{ℕ}
 use mathlib.Core.Path.{_≡_, refl, sym, ap, _∙_}
 use mathlib.Core.Bool.{Bool, true, false}
-use mathlib.Core.List.{List}
-use Rattle.layout.specs.Frame.{closingByte}
+use mathlib.Core.List.{List, []}
+use Rattle.layout.specs.Frame.{closing}
 use Rattle.layout.specs.Signs.{isMinus}
 use Rattle.layout.specs.declared.Mark.{Mark}
 use Rattle.layout.specs.declared.Prefix.{Prefix}
@@ -29,7 +29,7 @@ same-prefix false = refl
 same-prefix true = refl
 
 -- the mark says the sign, and nothing of it stands behind the digits
-float-mark : (f : Flags) (s : Bool) → (isMinus (floatMark f s) ≡ s) × (closingByte (floatMark f s) ≡ 0)
+float-mark : (f : Flags) (s : Bool) → (isMinus (floatMark f s) ≡ s) × (closing (floatMark f s) ≡ [])
 float-mark f true = (refl, refl)
 float-mark f false = sign-mark f
 

@@ -2,10 +2,10 @@
 use Prim.Native.Nat.{ℕ}
 use mathlib.Core.Path.{_≡_, refl, sym, subst}
 use mathlib.Core.Bool.{false}
-use mathlib.Core.List.{List}
+use mathlib.Core.List.{List, []}
 use lib.ListN.{length}
 use Rattle.writing.proofs.Choose.{by-test}
-use Rattle.layout.specs.Frame.{spare, frameOf, framed, padded, closingByte}
+use Rattle.layout.specs.Frame.{spare, frameOf, framed, padded, closing}
 use Rattle.layout.specs.Signs.{isMinus}
 use Rattle.layout.specs.declared.Adjust.{Adjust}
 use Rattle.layout.specs.declared.Adjust.the-variants.{Right, Left, Zeros}
@@ -27,9 +27,9 @@ module _ (P : List ℕ → Type 0) (m : Mark) (p : Prefix) (body : List ℕ) (al
   padded-read width Zeros = in-frame (frameOf width Zeros m p (length body)) (all 0 (spare width m p (length body)) 0)
 
 -- No `-`, and nothing behind the digits.
-pub sign-mark : (f : Flags) → (isMinus (signMark f) ≡ false) × (closingByte (signMark f) ≡ 0)
+pub sign-mark : (f : Flags) → (isMinus (signMark f) ≡ false) × (closing (signMark f) ≡ [])
 sign-mark f =
     by-test Plain (f .plus) _ _ (λ _. (refl, refl)) (λ _. by-test Plain (f .space) _ _ (λ _. (refl, refl)) (λ _. (refl, refl)))
   where
     Plain : Mark → Type 0
-    Plain m = (isMinus m ≡ false) × (closingByte m ≡ 0)
+    Plain m = (isMinus m ≡ false) × (closing m ≡ [])

@@ -3,10 +3,10 @@ use Prim.Native.Nat.{ℕ, _+_}
 use mathlib.Core.Bool.{Bool}
 use lib.Dec.{eqb}
 use lib.ListN.{length}
-use Rattle.layout.specs.Frame.{byteText, closingByte, marks}
+use Rattle.layout.specs.Frame.{opening, closing, prefixText}
 use Rattle.layout.specs.declared.Mark.{Mark}
 use Rattle.layout.specs.declared.Prefix.{Prefix}
 
 -- Whether there is nothing to write around a text: no width, mark or prefix.
 abbrev pub isBare : ℕ → Mark → Prefix → Bool
-isBare width m p = eqb (width + length (marks m p) + length (byteText (closingByte m))) 0
+isBare width m p = eqb (width + (length (opening m) + length (prefixText p) + length (closing m))) 0

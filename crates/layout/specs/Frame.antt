@@ -1,8 +1,9 @@
 -- What stands around the text of a value: spaces, mark, prefix and zeros in front of it, spaces and a closing mark behind it.
-use Prim.Native.Nat.{ℕ, zero, suc, _+_, _-_}
+use Prim.Native.Nat.{ℕ, _+_, _-_}
 use Prim.Native.Char.{code}
-use mathlib.Core.List.{List, [], _∷_, _++_}
+use mathlib.Core.List.{List, [], _++_}
 use lib.ListN.{length, replicate}
+use Rattle.writing.specs.Text.{ascii}
 use Rattle.layout.specs.declared.Mark.{Mark}
 use Rattle.layout.specs.declared.Mark.the-variants.{NoMark, Plus, Space, Minus, Brackets}
 use Rattle.layout.specs.declared.Prefix.{Prefix}
@@ -11,43 +12,32 @@ use Rattle.layout.specs.declared.Adjust.{Adjust}
 use Rattle.layout.specs.declared.Adjust.the-variants.{Right, Left, Zeros}
 use Rattle.layout.specs.declared.Frame.{Frame}
 
--- A byte as text; 0 stands for none.
-abbrev pub byteText : ℕ → List ℕ
-byteText zero = []
-byteText (suc b) = suc b ∷ []
-
 -- 01: "Mark: `(` and `)` or `-` for negatives, else `+`, else space." In front of the digits:
-abbrev pub openingByte : Mark → ℕ
-openingByte NoMark = 0
-openingByte Plus = code "+"
-openingByte Space = code " "
-openingByte Minus = code "-"
-openingByte Brackets = code "("
+abbrev pub opening : Mark → List ℕ
+opening NoMark = []
+opening Plus = ascii "+"
+opening Space = ascii " "
+opening Minus = ascii "-"
+opening Brackets = ascii "("
 
 -- and behind them:
-abbrev pub closingByte : Mark → ℕ
-closingByte NoMark = 0
-closingByte Plus = 0
-closingByte Space = 0
-closingByte Minus = 0
-closingByte Brackets = code ")"
+abbrev pub closing : Mark → List ℕ
+closing NoMark = []
+closing Plus = []
+closing Space = []
+closing Minus = []
+closing Brackets = ascii ")"
 
--- 01: "`#` puts `0x`, `0X` or `0` in front, zeros of padding after it." Its zero and its letter:
-abbrev pub prefixZero : Prefix → ℕ
-prefixZero NoPrefix = 0
-prefixZero Octal = code "0"
-prefixZero HexLower = code "0"
-prefixZero HexUpper = code "0"
-
-abbrev pub prefixLetter : Prefix → ℕ
-prefixLetter NoPrefix = 0
-prefixLetter Octal = 0
-prefixLetter HexLower = code "x"
-prefixLetter HexUpper = code "X"
+-- 01: "`#` puts `0x`, `0X` or `0` in front, zeros of padding after it."
+abbrev pub prefixText : Prefix → List ℕ
+prefixText NoPrefix = []
+prefixText Octal = ascii "0"
+prefixText HexLower = ascii "0x"
+prefixText HexUpper = ascii "0X"
 
 -- Mark and prefix, as they stand before zeros and digits.
 abbrev pub marks : Mark → Prefix → List ℕ
-marks m p = byteText (openingByte m) ++ (byteText (prefixZero p) ++ byteText (prefixLetter p))
+marks m p = opening m ++ prefixText p
 
 unfoldable pub spaces : ℕ → List ℕ
 spaces n = replicate n (code " ")
@@ -58,7 +48,7 @@ headText f = spaces (f .before) ++ (marks (f .mark) (f .prefix) ++ replicate (f 
 
 -- Behind it. 01: "With `-` the spaces stand before the closing `)`, as in 000."
 unfoldable pub tailText : Frame → List ℕ
-tailText f = spaces (f .after) ++ byteText (closingByte (f .mark))
+tailText f = spaces (f .after) ++ closing (f .mark)
 
 -- The text of a value in its frame.
 unfoldable pub framed : Frame → List ℕ → List ℕ
@@ -66,7 +56,7 @@ framed f body = headText f ++ (body ++ tailText f)
 
 -- 01: "The width left for digits is width less marks, at least 0", the prefix counting too: what mark, prefix and a text of n leave of the width.
 unfoldable pub spare : ℕ → Mark → Prefix → ℕ → ℕ
-spare width m p n = width - (length (marks m p) + n + length (byteText (closingByte m)))
+spare width m p n = width - (length (marks m p) + n + length (closing m))
 
 -- Java, "Flags": without a flag the padding stands in front as spaces, with `0` as zeros behind mark and prefix, with `-` behind as spaces.
 unfoldable pub frameOf : ℕ → Adjust → Mark → Prefix → ℕ → Frame

@@ -2,11 +2,13 @@
 // Ported in part from format_string.rs of datafusion-spark 55.2.0 (Apache-2.0; see NOTICE): the padding of format_signed,
 // format_unsigned, format_str and format_hex_float.
 ghost use mathlib.Core.Path.{_≡_};
-ghost use mathlib.Core.List.{List, _++_};
-ghost use Prim.Native.Nat.{_+_, _^_, _≤_, _<_};
+ghost use mathlib.Core.List.{List};
+ghost use Prim.Native.Nat.{ℕ, _+_, _^_, _≤_, _<_};
 ghost use lib.ListN.{length};
+ghost use Rattle.writing.specs.Laid.{laid};
 ghost use Rattle.writing.specs.Writers.{Wrote};
-ghost use Rattle.layout.specs.Frame.{byteText, openingByte, closingByte, prefixZero, prefixLetter, marks, headText, tailText, spare, frameOf};
+ghost use Rattle.layout.specs.Frame.{opening, closing, prefixText, headText, tailText, spare, frameOf};
+ghost use Rattle.layout.specs.Short.{StandsFor};
 ghost use Rattle.layout.specs.Bare.{isBare};
 
 // The mark of a number.
@@ -42,118 +44,85 @@ pub struct Frame {
     pub after: u32,
 }
 
-// The mark's byte in front of the digits, 0 for none.
-fn opening_byte(mark: Mark) -> u8
-    ensures { λ r. ⌜ r ≡ openingByte mark ⌝ }
+// A text of at most two bytes: how many, the first and the second, 0 where there is none.
+struct Short(usize, u8, u8);
+
+// What a mark puts in front of the digits.
+fn opening_text(mark: Mark) -> Short
+    ensures { λ r. ⌜ StandsFor r (opening mark) ⌝ }
 {
     match mark {
-        Mark::NoMark => 0,
-        Mark::Plus => b'+',
-        Mark::Space => b' ',
-        Mark::Minus => b'-',
-        Mark::Brackets => b'(',
+        Mark::NoMark => Short(0, 0, 0),
+        Mark::Plus => Short(1, b'+', 0),
+        Mark::Space => Short(1, b' ', 0),
+        Mark::Minus => Short(1, b'-', 0),
+        Mark::Brackets => Short(1, b'(', 0),
     }
 }
 
-// The mark's byte behind the digits, 0 for none.
-fn closing_byte(mark: Mark) -> u8
-    ensures { λ r. ⌜ r ≡ closingByte mark ⌝ }
+// What a mark puts behind the digits.
+fn closing_text(mark: Mark) -> Short
+    ensures { λ r. ⌜ StandsFor r (closing mark) ⌝ }
 {
     match mark {
-        Mark::NoMark => 0,
-        Mark::Plus => 0,
-        Mark::Space => 0,
-        Mark::Minus => 0,
-        Mark::Brackets => b')',
+        Mark::NoMark => Short(0, 0, 0),
+        Mark::Plus => Short(0, 0, 0),
+        Mark::Space => Short(0, 0, 0),
+        Mark::Minus => Short(0, 0, 0),
+        Mark::Brackets => Short(1, b')', 0),
     }
 }
 
-// The prefix's zero, 0 for none.
-fn prefix_zero(prefix: Prefix) -> u8
-    ensures { λ r. ⌜ r ≡ prefixZero prefix ⌝ }
+// What a prefix puts in front of zeros and digits.
+fn prefix_text(prefix: Prefix) -> Short
+    ensures { λ r. ⌜ StandsFor r (prefixText prefix) ⌝ }
 {
     match prefix {
-        Prefix::NoPrefix => 0,
-        Prefix::Octal => b'0',
-        Prefix::HexLower => b'0',
-        Prefix::HexUpper => b'0',
+        Prefix::NoPrefix => Short(0, 0, 0),
+        Prefix::Octal => Short(1, b'0', 0),
+        Prefix::HexLower => Short(2, b'0', b'x'),
+        Prefix::HexUpper => Short(2, b'0', b'X'),
     }
 }
 
-// The prefix's letter, 0 for none.
-fn prefix_letter(prefix: Prefix) -> u8
-    ensures { λ r. ⌜ r ≡ prefixLetter prefix ⌝ }
+// Writes a short text. Answers its length.
+fn write_short(out: &mut [u8], s: Short) -> usize
+    requires { ⌜ s .0 ≤ length (now out) ⌝ }
+    ensures { λ r. ⌜ (r ≡ s .0) × ((t : List ℕ) → StandsFor s t → now (out .exit) ≡ laid (now (out .entry)) t) ⌝ }
 {
-    match prefix {
-        Prefix::NoPrefix => 0,
-        Prefix::Octal => 0,
-        Prefix::HexLower => b'x',
-        Prefix::HexUpper => b'X',
-    }
-}
-
-// How many bytes a byte takes where 0 stands for none.
-fn byte_len(b: u8) -> u64
-    ensures { λ r. ⌜ (r ≡ length (byteText b)) × (r ≤ 1) ⌝ }
-{
-    if b == 0 {
+    if s.0 == 0 {
         return 0;
     }
-    1
-}
-
-// Writes a byte unless it is 0. Answers how many bytes that is.
-fn write_byte(out: &mut [u8], b: u8) -> usize
-    requires { ⌜ length (byteText b) ≤ length (now out) ⌝ }
-    ensures { λ r. ⌜ Wrote (now (out .entry)) (byteText b) r (now (out .exit)) ⌝ }
-{
-    if b == 0 {
-        return 0;
+    out[0] = s.1;
+    if s.0 == 1 {
+        return 1;
     }
-    out[0] = b;
-    1
+    out[1] = s.2;
+    s.0
 }
 
-// How many bytes mark and prefix have in front of the digits.
+// How many bytes mark and prefix have, the closing mark too.
 fn marks_len(mark: Mark, prefix: Prefix) -> u64
-    ensures { λ r. ⌜ (r ≡ length (marks mark prefix)) × (r ≤ 3) ⌝ }
+    ensures { λ r. ⌜ (r ≡ length (opening mark) + length (prefixText prefix) + length (closing mark)) × (r ≤ 6) ⌝ }
 {
-    byte_len(opening_byte(mark)) + byte_len(prefix_zero(prefix)) + byte_len(prefix_letter(prefix))
-}
-
-// Writes three bytes, each unless it is 0. Answers how many bytes that is.
-fn write_bytes(out: &mut [u8], x: u8, y: u8, z: u8) -> usize
-    requires { ⌜ length (byteText x ++ (byteText y ++ byteText z)) ≤ length (now out) ⌝ }
-    ensures { λ r. ⌜ Wrote (now (out .entry)) (byteText x ++ (byteText y ++ byteText z)) r (now (out .exit)) ⌝ }
-{
-    let a = write_byte(out, x);
-    let b = a + write_byte(&mut out[a..], y);
-    b + write_byte(&mut out[b..], z)
-}
-
-// Writes mark and prefix. Answers their length.
-fn write_marks(out: &mut [u8], mark: Mark, prefix: Prefix) -> usize
-    requires { ⌜ length (marks mark prefix) ≤ length (now out) ⌝ }
-    ensures { λ r. ⌜ Wrote (now (out .entry)) (marks mark prefix) r (now (out .exit)) ⌝ }
-{
-    let x = opening_byte(mark);
-    let y = prefix_zero(prefix);
-    let z = prefix_letter(prefix);
-    write_bytes(out, x, y, z)
+    let opening = opening_text(mark);
+    let prefixed = prefix_text(prefix);
+    let closing = closing_text(mark);
+    (opening.0 + prefixed.0 + closing.0) as u64
 }
 
 // Whether there is nothing to write around a text: no width, mark or prefix.
 pub fn is_bare(width: u32, mark: Mark, prefix: Prefix) -> bool
     ensures { λ r. ⌜ r ≡ isBare width mark prefix ⌝ }
 {
-    (width as u64) + marks_len(mark, prefix) + byte_len(closing_byte(mark)) == 0
+    (width as u64) + marks_len(mark, prefix) == 0
 }
 
 // What is left of the width beside mark, prefix and a text of n.
 fn spare_width(width: u32, mark: Mark, prefix: Prefix, n: u64) -> u32
     ensures { λ r. ⌜ r ≡ spare width mark prefix n ⌝ }
 {
-    let marks = marks_len(mark, prefix) + byte_len(closing_byte(mark));
+    let marks = marks_len(mark, prefix);
     let whole = width as u64;
     if whole <= marks {
         return 0;
@@ -201,7 +170,7 @@ pub fn frame_len(f: Frame) -> u64
     let mark = f.mark;
     let prefix = f.prefix;
     let runs = (f.before as u64) + (f.zeros as u64) + (f.after as u64);
-    runs + marks_len(mark, prefix) + byte_len(closing_byte(mark))
+    runs + marks_len(mark, prefix)
 }
 
 // Writes what stands in front of the text. Answers its length.
@@ -213,9 +182,12 @@ pub fn write_head(out: &mut [u8], f: Frame) -> usize
     let prefix = f.prefix;
     let before = f.before as usize;
     let zeros = f.zeros as usize;
+    let opening = opening_text(mark);
+    let prefixed = prefix_text(prefix);
     let a = writing::write_fill(out, before, b' ');
-    let b = a + write_marks(&mut out[a..], mark, prefix);
-    b + writing::write_fill(&mut out[b..], zeros, b'0')
+    let b = a + write_short(&mut out[a..], opening);
+    let c = b + write_short(&mut out[b..], prefixed);
+    c + writing::write_fill(&mut out[c..], zeros, b'0')
 }
 
 // Writes what stands behind the text. Answers its length.
@@ -225,7 +197,7 @@ pub fn write_tail(out: &mut [u8], f: Frame) -> usize
 {
     let mark = f.mark;
     let after = f.after as usize;
-    let closing = closing_byte(mark);
+    let closing = closing_text(mark);
     let a = writing::write_fill(out, after, b' ');
-    a + write_byte(&mut out[a..], closing)
+    a + write_short(&mut out[a..], closing)
 }

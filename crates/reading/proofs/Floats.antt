@@ -16,7 +16,7 @@ use Rattle.writing.specs.Choose.{choose}
 use Rattle.numerals.specs.Digits.{digits, digitsIn, letterOf, lettersOf, numberFrom, numberOf, decimal}
 use Rattle.numerals.proofs.Digits.{Below, below-append, below-digitsIn, below-zeros, letters-append}
 use Rattle.numerals.proofs.Digits.{length-letters, length-digitsIn, number-append, number-zeros, number-digitsIn}
-use Rattle.layout.specs.Frame.{byteText, closingByte, marks}
+use Rattle.layout.specs.Frame.{closing, marks}
 use Rattle.layout.specs.Signs.{isMinus}
 use Rattle.layout.specs.declared.Mark.{Mark}
 use Rattle.layout.specs.declared.Mark.the-variants.{NoMark, Plus, Space, Minus, Brackets}
@@ -179,17 +179,16 @@ magnitude-back s z h one k =
     ∙ simp (number-is z h k, lf)
 
 -- The piece of %a or %A of a finite value, whatever its mark, zeros and spaces.
-pub float-back : (a : ℕ) (m : Mark) (v : Bool) (z : ℕ) (u : Bool) (h : HexFloat) (i j : ℕ) → closingByte m ≡ 0 → 1 ≤ h .digits → h .fraction < 16 ^ h .digits
+pub float-back : (a : ℕ) (m : Mark) (v : Bool) (z : ℕ) (u : Bool) (h : HexFloat) (i j : ℕ) → closing m ≡ [] → 1 ≤ h .digits → h .fraction < 16 ^ h .digits
     → readFloat (kept (spaced a m (hexPrefix v) z (hexFloatText u h) i j)) ≡ some (scaledOf (isMinus m) h)
 unfolding kept readFloat
 float-back a m v z u h i j c one k =
     let text = valueText h (exponentOf h) in
-    let none : byteText (closingByte m) ≡ [] = ap byteText c in
     let all : kept (spaced a m (hexPrefix v) z (hexFloatText u h) i j) ≡ kept (marks m (hexPrefix v)) ++ (lettersOf false (replicate z 0) ++ text) =
-    kept-spaced a m (hexPrefix v) z (hexFloatText u h) text i j (kept-value u h) ∙ simp (none, append-nil) in
+    kept-spaced a m (hexPrefix v) z (hexFloatText u h) text i j (kept-value u h) ∙ simp (c, append-nil) in
     ap readFloat all ∙ by-mark m v c
   where
-    by-mark : (m : Mark) (v : Bool) → closingByte m ≡ 0
+    by-mark : (m : Mark) (v : Bool) → closing m ≡ []
         → readFloat (kept (marks m (hexPrefix v)) ++ (lettersOf false (replicate z 0) ++ valueText h (exponentOf h))) ≡ some (scaledOf (isMinus m) h)
     by-mark NoMark false c = magnitude-back false z h one k
     by-mark NoMark true c = magnitude-back false z h one k
@@ -199,4 +198,4 @@ float-back a m v z u h i j c one k =
     by-mark Space true c = magnitude-back false z h one k
     by-mark Minus false c = magnitude-back true z h one k
     by-mark Minus true c = magnitude-back true z h one k
-    by-mark Brackets v c = absurd (omega (arith, c))
+    by-mark Brackets v c = absurd (omega (arith, ap length c))

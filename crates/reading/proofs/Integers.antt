@@ -15,7 +15,7 @@ use Rattle.numerals.specs.Grouping.{grouped}
 use Rattle.numerals.specs.Integers.{signed}
 use Rattle.numerals.proofs.Digits.{Below, below-append, below-digitsIn, below-zeros, letters-append}
 use Rattle.numerals.proofs.Digits.{length-digitsIn, number-append, number-zeros, number-digits, places-pos}
-use Rattle.layout.specs.Frame.{byteText, closingByte, marks, spaces, headText, tailText, framed}
+use Rattle.layout.specs.Frame.{closing, marks, spaces, headText, tailText, framed}
 use Rattle.layout.specs.Signs.{isMinus}
 use Rattle.layout.specs.declared.Mark.{Mark}
 use Rattle.layout.specs.declared.Mark.the-variants.{NoMark, Plus, Space, Minus, Brackets}
@@ -29,13 +29,13 @@ use Rattle.reading.proofs.Digits.{letter-is-not, whole-read}
 
 -- A value's text with spaces in front of it, before a closing bracket and behind it: every place where 01 and E2 let them stand.
 abbrev pub spaced : ℕ → Mark → Prefix → ℕ → List ℕ → ℕ → ℕ → List ℕ
-spaced a m p z body i j = spaces a ++ (marks m p ++ (replicate z (code "0") ++ (body ++ (spaces i ++ (byteText (closingByte m) ++ spaces j)))))
+spaced a m p z body i j = spaces a ++ (marks m p ++ (replicate z (code "0") ++ (body ++ (spaces i ++ (closing m ++ spaces j)))))
 
 pub framed-spaced : (f : Frame) (body : List ℕ) → framed f body ≡ spaced (f .before) (f .mark) (f .prefix) (f .zeros) body (f .after) 0
 unfolding framed headText tailText spaces
 framed-spaced f body = simp (append-assoc, append-nil)
 
-kept-closing : (m : Mark) → kept (byteText (closingByte m)) ≡ byteText (closingByte m)
+kept-closing : (m : Mark) → kept (closing m) ≡ closing m
 unfolding kept
 kept-closing NoMark = refl
 kept-closing Plus = refl
@@ -49,7 +49,7 @@ withZeros z ds = replicate z 0 ++ ds
 
 -- What counts of a piece whose text keeps the digits ds: the marks, the digits, the closing mark.
 pub kept-spaced : (a : ℕ) (m : Mark) (p : Prefix) (z : ℕ) (body rest : List ℕ) (i j : ℕ) → kept body ≡ rest
-    → kept (spaced a m p z body i j) ≡ kept (marks m p) ++ (lettersOf false (replicate z 0) ++ (rest ++ byteText (closingByte m)))
+    → kept (spaced a m p z body i j) ≡ kept (marks m p) ++ (lettersOf false (replicate z 0) ++ (rest ++ closing m))
 kept-spaced a m p z body rest i j e =
     simp (kept-append, kept-spaces, e, zero-letters false z, kept-letters false (replicate z 0) (below-zeros 16 z (omega arith)), kept-closing, append-nil)
 
@@ -115,7 +115,7 @@ pub decimal-back : (a : ℕ) (m : Mark) (z : ℕ) (body : List ℕ) (i j n : ℕ
 unfolding kept readDecimal
 decimal-back a m z body i j n e =
     let ds = digits 10 n in
-    let close = byteText (closingByte m) in
+    let close = closing m in
     let d : Digits 10 n (withZeros z ds) = zeros-first 10 n z ds (lit< tt) (digits-of 10 n (lit≤ tt)) in
     let k : lettersOf false (replicate z 0) ++ (lettersOf false ds ++ close) ≡ lettersOf false (withZeros z ds) ++ close =
     sym (append-assoc (lettersOf false (replicate z 0)) (lettersOf false ds) close)
@@ -124,7 +124,7 @@ decimal-back a m z body i j n e =
     ∙ by-mark m (withZeros z ds) d
   where
     by-mark : (m : Mark) (ds : List ℕ) → Digits 10 n ds
-        → readDecimal (kept (marks m NoPrefix) ++ (lettersOf false ds ++ byteText (closingByte m))) ≡ some (signed (isMinus m) n)
+        → readDecimal (kept (marks m NoPrefix) ++ (lettersOf false ds ++ closing m)) ≡ some (signed (isMinus m) n)
     by-mark NoMark ds d = rw append-nil (plain n ds d)
     by-mark Plus ds d = rw append-nil (plain n ds d)
     by-mark Space ds d = rw append-nil (plain n ds d)

@@ -1,7 +1,7 @@
 -- 01's reading rule, fed the bytes of a printed piece and its letter, gives the number that was printed. Assumes nothing.
 use mathlib.Core.Path.{_≡_, ap}
 use mathlib.Core.Bool.{Bool, true, false}
-use mathlib.Core.List.{List}
+use mathlib.Core.List.{List, []}
 use mathlib.Core.Option.{some}
 use Prim.Native.Nat.{ℕ}
 use Prim.Native.Char.{code}
@@ -10,7 +10,7 @@ use Rattle.writing.specs.Choose.{choose}
 use Rattle.numerals.specs.Digits.{digits, lettersOf}
 use Rattle.numerals.specs.Integers.{signed}
 use Rattle.numerals.specs.declared.NumericParam.{NumericParam}
-use Rattle.layout.specs.Frame.{closingByte}
+use Rattle.layout.specs.Frame.{closing}
 use Rattle.layout.specs.Signs.{isMinus}
 use Rattle.layout.specs.declared.Mark.{Mark}
 use Rattle.layout.specs.declared.Mark.the-variants.{NoMark}
@@ -42,7 +42,7 @@ unfolding readPiece
 octal-piece a p z body i j n e = ap (reading Bits) (bits-back a p z body i j 8 n (lit≤ tt) (lit≤ tt) e)
 
 -- %a and %A: the number that the parts make, which `Denotes` says more of.
-module _ (a : ℕ) (m : Mark) (w : Bool) (z : ℕ) (v : Bool) (b : ℕ) (p : NumericParam) (i j : ℕ) (c : closingByte m ≡ 0) where
+module _ (a : ℕ) (m : Mark) (w : Bool) (z : ℕ) (v : Bool) (b : ℕ) (p : NumericParam) (i j : ℕ) (c : closing m ≡ []) where
   parts-back : readFloat (kept (spaced a m (hexPrefix w) z (hexFloatText v (hexFloatOf b p)) i j)) ≡ some (scaledOf (isMinus m) (hexFloatOf b p))
   parts-back = let k = well-formed b p in float-back a m w z v (hexFloatOf b p) i j c (k .one-digit) (k .below)
 
