@@ -135,15 +135,19 @@ fn put_padded(out: &mut [u8], e: Element, mark: Mark, text: &[u8]) -> u64
     let width = e.width;
     let flags = e.flags;
     let n = text.len() as u64;
-    let frame = layout::frame_for(width_of(width), side_of(flags), mark, Prefix::NoPrefix, n);
-    let total = layout::frame_len(frame) + n;
-    if total <= out.len() as u64 {
-        let a = layout::write_head(out, frame);
-        let upper = e.upper;
-        let b = a + strings::write_cased(&mut out[a..], text, upper);
-        layout::write_tail(&mut out[b..], frame);
+    let framed = layout::put_frame(
+        out,
+        width_of(width),
+        side_of(flags),
+        mark,
+        Prefix::NoPrefix,
+        n,
+    );
+    if framed.fits {
+        let at = framed.at;
+        strings::write_cased(&mut out[at..], text, e.upper);
     }
-    total
+    framed.total
 }
 
 // A text, cut to the precision, in capitals or not, padded to the width.
@@ -199,14 +203,19 @@ fn put_framed_numeral(out: &mut [u8], e: Element, n: Numeral) -> u64
     let mark = n.mark;
     let prefix = n.prefix;
     let len = numeral_len(n);
-    let frame = layout::frame_for(width_of(width), fill_of(flags), mark, prefix, len as u64);
-    let total = layout::frame_len(frame) + len as u64;
-    if total <= out.len() as u64 {
-        let a = layout::write_head(out, frame);
-        let b = a + write_numeral(&mut out[a..], n, len);
-        layout::write_tail(&mut out[b..], frame);
+    let framed = layout::put_frame(
+        out,
+        width_of(width),
+        fill_of(flags),
+        mark,
+        prefix,
+        len as u64,
+    );
+    if framed.fits {
+        let at = framed.at;
+        write_numeral(&mut out[at..], n, len);
     }
-    total
+    framed.total
 }
 
 // A numeral, padded to the element's width.
@@ -339,14 +348,19 @@ fn format_finite(out: &mut [u8], e: Element, bits: u64) -> u64
     let mark = float_mark(flags, parts.negative);
     let float = binary64::hex_float(bits, precision);
     let n = binary64::hex_float_len(float);
-    let frame = layout::frame_for(width_of(width), fill_of(flags), mark, hex_prefix(upper), n);
-    let total = layout::frame_len(frame) + n;
-    if total <= out.len() as u64 {
-        let a = layout::write_head(out, frame);
-        let b = a + binary64::write_hex_float(&mut out[a..], float, upper);
-        layout::write_tail(&mut out[b..], frame);
+    let framed = layout::put_frame(
+        out,
+        width_of(width),
+        fill_of(flags),
+        mark,
+        hex_prefix(upper),
+        n,
+    );
+    if framed.fits {
+        let at = framed.at;
+        binary64::write_hex_float(&mut out[at..], float, upper);
     }
-    total
+    framed.total
 }
 
 // %a

@@ -1,24 +1,27 @@
 -- A text brought to a width: its length, and the three writes that make it. Assumes nothing.
-use mathlib.Core.Path.{_≡_, refl, sym, ap, _∙_}
-use mathlib.Core.Bool.{true}
-use mathlib.Core.List.{List, [], _++_, append-nil}
+use mathlib.Core.Path.{_≡_, refl, sym, ap, subst, _∙_}
+use mathlib.Core.Bool.{Bool, true, false}
+use mathlib.Core.List.{List, [], _++_, append-nil, append-assoc}
 use Prim.Native.Nat.{ℕ, _+_, _-_, _≤_, _<_, max}
+use native.Mathlib.Nat.{add-assoc}
 use native.Mathlib.Omega.{arith}
-use lib.ListN.{length, length-append, drop-of-length-le}
-use borrow.Author.Tests.{eqb-true}
+use lib.ListN.{length, take, drop, length-append, length-drop, drop-of-length-le}
+use lib.Seq.{length-take-le, take-append-add, drop-append-add, take-append-seam, drop-append-seam, drop-at, drop-drop}
+use borrow.Author.Tests.{eqb-true, leb-true, leb-false}
 use borrow.Rule.Slice.PartMut.{putMid, midOf}
 use Rattle.writing.specs.Laid.{laid}
-use Rattle.writing.specs.Writers.{Wrote, Put}
-use Rattle.writing.proofs.Laid.{laid-room, laid-no-room}
+use Rattle.writing.specs.Writers.{Put}
+use Rattle.writing.proofs.Laid.{lent-back, laid-room, laid-no-room}
 use Rattle.layout.specs.Frame.{opening, prefixText, closing, marks, headText, tailText, framed, spare, frameOf, padded}
+use Rattle.layout.specs.Around.{laidFrom, LeftAround, FramePut}
 use Rattle.layout.specs.Bare.{isBare}
 use Rattle.layout.specs.declared.Mark.{Mark}
 use Rattle.layout.specs.declared.Prefix.{Prefix}
 use Rattle.layout.specs.declared.Adjust.{Adjust}
 use Rattle.layout.specs.declared.Adjust.the-variants.{Right, Left, Zeros}
 use Rattle.layout.specs.declared.Frame.{Frame}
+use Rattle.layout.specs.declared.Framed.{Framed}
 use Rattle.layout.proofs.Lengths.{head-length, tail-length}
-use Rattle.layout.proofs.Chained.{wrote-three}
 
 -- f is the frame of the text.
 module _ (w : ℕ) (a : Adjust) (m : Mark) (p : Prefix) (body : List ℕ) (f : Frame) (e : f ≡ frameOf w a m p (length body)) where
@@ -29,22 +32,64 @@ module _ (w : ℕ) (a : Adjust) (m : Mark) (p : Prefix) (body : List ℕ) (f : F
   pub padded-size : length (padded w a m p body) ≡ (length (headText f) + length (tailText f)) + length body
   padded-size = ap length padded-is ∙ simp length-append (omega arith)
 
-  -- t is the length of both: with room for so much three writes, and without it nothing, are what a put_ leaves.
-  module _ (d : List ℕ) (t : ℕ) (l : t ≡ (length (headText f) + length (tailText f)) + length body) where
-    -- D is what the slice holds after the head, of length h; Y what the writer of the text left of the part from h on; E the slice then; and Z what
-    -- the writer of the tail left of the part behind the text.
-    pub padded-put : (D Y E Z : List ℕ) (h n r : ℕ) → t ≤ length d → Wrote d (headText f) h D → Wrote (midOf h (length D - h) D) body n Y
-        → E ≡ putMid h (length D - h) D Y → Wrote (midOf (h + n) (length E - (h + n)) E) (tailText f) r Z
-        → Put d (padded w a m p body) t (putMid (h + n) (length E - (h + n)) E Z)
-    padded-put D Y E Z h n r room x y b z = (
-      l ∙ sym padded-size,
-      wrote-three d (headText f) body (tailText f) D Y E Z h n r x y b z .1
-          ∙ ap (laid d) (sym padded-is)
-          ∙ sym (laid-room d (padded w a m p body) (omega (arith, padded-size))),
-    )
+-- The text in its frame: written to its place, which is n bytes long, where frame and text fit.
+around-filled : (d h b t : List ℕ) → (length h + length t) + length b ≤ length d
+    → laidFrom (length h) (laidFrom (length h + length b) (laid d h) t) b ≡ laid d (h ++ (b ++ t))
+unfolding laid
+around-filled d h b t room =
+    let gap : List ℕ = take (length b) (drop (length h) d) in
+    let rest : List ℕ = t ++ drop (length t) (drop (length b) (drop (length h) d)) in
+    let long : length gap ≡ length b = length-take-le (length b) (drop (length h) d) (simp length-drop (omega arith)) in
+    simp (
+      take-append-add,
+      drop-append-add,
+      append-assoc,
+      take-append-seam,
+      drop-append-seam,
+      drop-at gap rest (length b) long,
+    ) (simp (drop-drop, length-append, add-assoc))
 
-    pub padded-not : length d < t → Put d (padded w a m p body) t d
-    padded-not h = (l ∙ sym padded-size, sym (laid-no-room d (padded w a m p body) (omega (arith, padded-size))))
+-- Where frame and text fit, there is room for the text from its place on.
+pub framed-room : (d : List ℕ) (f : Frame) (n : ℕ) (r : Framed) (D : List ℕ) → FramePut d f n r D → r .fits ≡ true → r .at + n ≤ length d
+framed-room d f n r D h e =
+    let room = leb-true (r .total) (length d) (sym (h .fits) ∙ e) in
+    let left : LeftAround true d f n (r .at) D = subst (λ (t : Bool). LeftAround t d f n (r .at) D) e (h .left) in
+    omega (arith, h .total, left .0)
+
+module _ (w : ℕ) (a : Adjust) (m : Mark) (p : Prefix) (body : List ℕ) (n : ℕ) (q : n ≡ length body) (d : List ℕ) (r : Framed) (D : List ℕ)
+    (h : FramePut d (frameOf w a m p n) n r D) where
+  frame : Frame
+  frame = frameOf w a m p (length body)
+
+  put : FramePut d frame (length body) r D
+  unfolding frame
+  put = subst (λ (k : ℕ). FramePut d (frameOf w a m p k) k r D) q h
+
+  size : r .total ≡ length (padded w a m p body)
+  unfolding frame
+  size = put .total ∙ sym (padded-size w a m p body frame refl)
+
+  -- Y is what the writer of the text left of the part from its place on.
+  pub framed-put : r .fits ≡ true → (Y : List ℕ) → Y ≡ laid (midOf (r .at) (length D - r .at) D) body
+      → Put d (padded w a m p body) (r .total) (putMid (r .at) (length D - r .at) D Y)
+  unfolding frame
+  framed-put e Y y =
+      let f = frameOf w a m p (length body) in
+      let room = leb-true (r .total) (length d) (sym (put .fits) ∙ e) in
+      let left : LeftAround true d f (length body) (r .at) D = subst (λ (t : Bool). LeftAround t d f (length body) (r .at) D) e (put .left) in (
+        size,
+        ap (putMid (r .at) (length D - r .at) D) y
+            ∙ lent-back D body (r .at)
+            ∙ rw (left .0, left .1) (around-filled d (headText f) body (tailText f) (omega (arith, put .total)))
+            ∙ ap (laid d) (sym (padded-is w a m p body f refl))
+            ∙ sym (laid-room d (padded w a m p body) (omega (arith, size))),
+      )
+
+  pub framed-not : r .fits ≡ false → Put d (padded w a m p body) (r .total) D
+  framed-not e =
+      let small = leb-false (r .total) (length d) (sym (put .fits) ∙ e) in
+      let left : D ≡ d = subst (λ (t : Bool). LeftAround t d frame (length body) (r .at) D) e (put .left) in
+      (size, left ∙ sym (laid-no-room d (padded w a m p body) (omega (arith, size))))
 
 -- What a frame brings a text of n bytes to: the width, or more where mark, prefix and text are longer.
 module _ (w : ℕ) (m : Mark) (p : Prefix) (body : List ℕ) where

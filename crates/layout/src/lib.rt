@@ -9,6 +9,7 @@ ghost use Rattle.writing.specs.Laid.{laid};
 ghost use Rattle.writing.specs.Writers.{Wrote};
 ghost use Rattle.layout.specs.Frame.{opening, closing, prefixText, headText, tailText, spare, frameOf};
 ghost use Rattle.layout.specs.Short.{StandsFor};
+ghost use Rattle.layout.specs.Around.{around, FramePut};
 ghost use Rattle.layout.specs.Bare.{isBare};
 
 // The mark of a number.
@@ -42,6 +43,13 @@ pub struct Frame {
     pub prefix: Prefix,
     pub zeros: u32,
     pub after: u32,
+}
+
+// What put_frame answers: the length of frame and text, and where the text goes, if both fit.
+pub struct Framed {
+    pub total: u64,
+    pub at: usize,
+    pub fits: bool,
 }
 
 // A text of at most two bytes: how many, the first and the second, 0 where there is none.
@@ -134,7 +142,7 @@ fn spare_width(width: u32, mark: Mark, prefix: Prefix, n: u64) -> u32
 }
 
 // The frame that brings a text of n to the width; a width of 0 pads nothing.
-pub fn frame_for(width: u32, adjust: Adjust, mark: Mark, prefix: Prefix, n: u64) -> Frame
+fn frame_for(width: u32, adjust: Adjust, mark: Mark, prefix: Prefix, n: u64) -> Frame
     ensures { λ r. ⌜ r ≡ frameOf width adjust mark prefix n ⌝ }
 {
     let rest = spare_width(width, mark, prefix, n);
@@ -164,7 +172,7 @@ pub fn frame_for(width: u32, adjust: Adjust, mark: Mark, prefix: Prefix, n: u64)
 }
 
 // How many bytes a frame adds to the text within it; nothing is written.
-pub fn frame_len(f: Frame) -> u64
+fn frame_len(f: Frame) -> u64
     ensures { λ r. ⌜ (r ≡ length (headText f) + length (tailText f)) × (r < 2 ^ 41) ⌝ }
 {
     let mark = f.mark;
@@ -174,7 +182,7 @@ pub fn frame_len(f: Frame) -> u64
 }
 
 // Writes what stands in front of the text. Answers its length.
-pub fn write_head(out: &mut [u8], f: Frame) -> usize
+fn write_head(out: &mut [u8], f: Frame) -> usize
     requires { ⌜ length (headText f) ≤ length (now out) ⌝ }
     ensures { λ r. ⌜ Wrote (now (out .entry)) (headText f) r (now (out .exit)) ⌝ }
 {
@@ -191,7 +199,7 @@ pub fn write_head(out: &mut [u8], f: Frame) -> usize
 }
 
 // Writes what stands behind the text. Answers its length.
-pub fn write_tail(out: &mut [u8], f: Frame) -> usize
+fn write_tail(out: &mut [u8], f: Frame) -> usize
     requires { ⌜ length (tailText f) ≤ length (now out) ⌝ }
     ensures { λ r. ⌜ Wrote (now (out .entry)) (tailText f) r (now (out .exit)) ⌝ }
 {
@@ -200,4 +208,43 @@ pub fn write_tail(out: &mut [u8], f: Frame) -> usize
     let closing = closing_text(mark);
     let a = writing::write_fill(out, after, b' ');
     a + write_short(&mut out[a..], closing)
+}
+
+// Writes a frame around the place of n bytes. Answers that place.
+fn write_frame(out: &mut [u8], f: Frame, n: usize) -> usize
+    requires { ⌜ (length (headText f) + length (tailText f)) + n ≤ length (now out) ⌝ }
+    ensures { λ r. ⌜ (r ≡ length (headText f)) × (now (out .exit) ≡ around (now (out .entry)) f n) ⌝ }
+{
+    let at = write_head(out, f);
+    let end = at + n;
+    write_tail(&mut out[end..], f);
+    at
+}
+
+// Writes what brings a text of n to the width around its place, where there is room for all of it; else writes nothing.
+pub fn put_frame(
+    out: &mut [u8],
+    width: u32,
+    adjust: Adjust,
+    mark: Mark,
+    prefix: Prefix,
+    n: u64,
+) -> Framed
+    requires { ⌜ n < 2 ^ 41 ⌝ }
+    ensures { λ r. ⌜ FramePut (now (out .entry)) (frameOf width adjust mark prefix n) n r (now (out .exit)) ⌝ }
+{
+    let f = frame_for(width, adjust, mark, prefix, n);
+    let total = frame_len(f) + n;
+    if total <= out.len() as u64 {
+        return Framed {
+            total: total,
+            at: write_frame(out, f, n as usize),
+            fits: true,
+        };
+    }
+    Framed {
+        total: total,
+        at: 0,
+        fits: false,
+    }
 }

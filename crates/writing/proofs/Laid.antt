@@ -54,7 +54,7 @@ laid-on d t u n e =
     rw (← e) (simp (take-append-seam, drop-append-seam, drop-drop, append-assoc, length-append))
 
 -- The part from n on, lent to a writer of u, is back: what the borrow checker says of it, as a list.
-lent-back : (xs u : List ℕ) (n : ℕ) → putMid n (length xs - n) xs (laid (midOf n (length xs - n) xs) u) ≡ take n xs ++ laid (drop n xs) u
+pub lent-back : (xs u : List ℕ) (n : ℕ) → putMid n (length xs - n) xs (laid (midOf n (length xs - n) xs) u) ≡ take n xs ++ laid (drop n xs) u
 lent-back xs u n =
     let whole : take (length xs - n) (drop n xs) ≡ drop n xs = take-all (length xs - n) (drop n xs) (le-of-eq (length-drop n xs)) in
     let none : drop (length xs - n) (drop n xs) ≡ [] = drop-of-length-le (drop n xs) (le-of-eq (length-drop n xs)) in

@@ -1,132 +1,70 @@
 -- `elements::put_framed_numeral` meets its contract. Assumes nothing.
-use Prim.Native.Nat.{_+_, _^_, _<_}
-use mathlib.Core.Path.{_≡_, refl}
-use lib.ListN.{length}
+use Prim.Native.Nat.{_+_, _≤_}
+use lib.ListN.{length, length-take, length-drop}
 use native.Mathlib.Omega.{arith}
-use Rattle.layout.specs.Frame.{headText, tailText, frameOf}
-use Rattle.layout.proofs.Padded.{padded-put, padded-not}
+use mathlib.Core.Path.{_≡_}
+use mathlib.Core.Bool.{true}
+use Rattle.layout.specs.Frame.{frameOf}
+use Rattle.layout.specs.Around.{FramePut}
+use Rattle.layout.proofs.Padded.{framed-room, framed-put, framed-not}
 use Rattle.elements.specs.Texts.{widthOf, fill}
 use Rattle.elements.specs.Sizes.{digitsText}
 use borrow.Author.Needs.{needs}
 use Rattle.elements.proofs.put_framed_numeral.Statement.{statement}
 use Rattle.elements.proofs.put_framed_numeral.Tie as tie
 
--- the places behind numeral_len and at the start, from the place behind frame_len
-abbrev counted : tie.After-frame-len → tie.After-numeral-len
+-- the places behind numeral_len and at the start, from the place behind put_frame
+abbrev counted : tie.After-put-frame → tie.After-numeral-len
 counted c = c .before .before .before .before
 
-abbrev start : tie.After-frame-len → tie.Start
+abbrev start : tie.After-put-frame → tie.Start
 start c = counted c .before .before .before
 
-module _ (c : tie.After-frame-len) where
-  frame-is : c .before .frame-for .result
-      ≡ frameOf (widthOf (start c .args .e .width)) (fill (start c .args .e .flags)) (start c .args .n .mark) (start c .args .n .prefix)
-      (length (digitsText (start c .args .n)))
-  frame-is =
-      let filled = c .before .before in
-      simp (← counted c .numeral-len .ensures .0, ← filled .before .width-of .ensures, ← filled .fill-of .ensures) (c .before .frame-for .ensures)
+module _ (c : tie.After-put-frame) where
+  put : let a = start c .args in
+      let n = counted c .numeral-len .result in
+      FramePut (a .out .now) (frameOf (widthOf (a .e .width)) (fill (a .e .flags)) (a .n .mark) (a .n .prefix) n) n (c .put-frame .result)
+      (c .put-frame .last .0)
+  put =
+      let filled = c .before in
+      simp (← filled .before .width-of .ensures, ← filled .fill-of .ensures) (c .put-frame .ensures)
 
-  whole : c .frame-len .result + counted c .numeral-len .result
-      ≡ (length (headText (c .before .frame-for .result)) + length (tailText (c .before .frame-for .result))) + length (digitsText (start c .args .n))
-  whole = omega (arith, c .frame-len .ensures .0, counted c .numeral-len .ensures .0)
-
-  small : c .frame-len .result + counted c .numeral-len .result < 2 ^ 42
-  small = omega (arith, c .frame-len .ensures .1, counted c .numeral-len .ensures .1)
-
-numeral-len-requires : tie.Need-numeral-len-requires
-numeral-len-requires c κs = search needs
-
-width-of-requires : tie.Need-width-of-requires
-width-of-requires c κs = search needs
-
-fill-of-requires : tie.Need-fill-of-requires
-fill-of-requires c κs = search needs
-
-frame-for-requires : tie.Need-frame-for-requires
-frame-for-requires c κs = search needs
-
-frame-len-requires : tie.Need-frame-len-requires
-frame-len-requires c κs = search needs
-
-add-total : tie.Need-add-total
-add-total c = search needs
-
-write-head-requires : tie.Need-write-head-requires
-write-head-requires c κs = search needs
-
-sub-write-numeral : tie.Need-sub-write-numeral
-sub-write-numeral c = search needs
-
-part-write-numeral-start : tie.Need-part-write-numeral-start
-part-write-numeral-start c = search needs
-
-part-write-numeral-end : tie.Need-part-write-numeral-end
-part-write-numeral-end c = search needs
-
-write-numeral-requires : tie.Need-write-numeral-requires
-write-numeral-requires c κs = search needs
-
-add-b : tie.Need-add-b
-add-b c = search needs
-
-sub-write-tail : tie.Need-sub-write-tail
-sub-write-tail c = search needs
-
-part-write-tail-start : tie.Need-part-write-tail-start
-part-write-tail-start c = search needs
-
-part-write-tail-end : tie.Need-part-write-tail-end
-part-write-tail-end c = search needs
-
-write-tail-requires : tie.Need-write-tail-requires
-write-tail-requires c κs = search needs
-
-same-length : tie.Need-same-length
-same-length c = search needs
+  room : c .put-frame .result .fits ≡ true → c .put-frame .result .at + counted c .numeral-len .result ≤ length (start c .args .out .now)
+  room = framed-room _ _ _ _ _ put
 
 returns : tie.Need-returns
 returns c =
-    let tail = c .before .before in
-    let text = tail .before .before .before .before in
-    let head = text .before .before .before .before in
-    let tested = head .before .before in
-    let len = tested .before in
-    let a = start len .args in (
-      padded-put (widthOf (a .e .width)) (fill (a .e .flags)) (a .n .mark) (a .n .prefix) (digitsText (a .n)) (len .before .frame-for .result) (frame-is len)
-          (a .out .now) (len .frame-len .result + counted len .numeral-len .result) (whole len)
-          _ _ _ _ _ _ _ (tested .if1 .taken) (head .write-head .ensures) (text .write-numeral .ensures) refl (tail .write-tail .ensures),
-      small len,
+    let wrote = c .before .before in
+    let tested = wrote .before .before in
+    let framed = tested .before .before .before in
+    let a = start framed .args in (
+      framed-put (widthOf (a .e .width)) (fill (a .e .flags)) (a .n .mark) (a .n .prefix) (digitsText (a .n)) _ (counted framed .numeral-len .ensures .0)
+          (a .out .now) _ _ (put framed) (tested .if1 .taken) _ (wrote .write-numeral .ensures .1),
+      put framed .below,
     )
 
 returns-2 : tie.Need-returns-2
 returns-2 c =
-    let len = c .before in
-    let a = start len .args in (
-      padded-not (widthOf (a .e .width)) (fill (a .e .flags)) (a .n .mark) (a .n .prefix) (digitsText (a .n)) (len .before .frame-for .result) (frame-is len)
-          (a .out .now) (len .frame-len .result + counted len .numeral-len .result) (whole len) (c .if1 .left),
-      small len,
+    let framed = c .before .before .before in
+    let a = start framed .args in (
+      framed-not (widthOf (a .e .width)) (fill (a .e .flags)) (a .n .mark) (a .n .prefix) (digitsText (a .n)) _ (counted framed .numeral-len .ensures .0)
+          (a .out .now) _ _ (put framed) (c .if1 .left),
+      put framed .below,
     )
 
 pub put-framed-numeral-spec : {M : Type 1} → statement M
 put-framed-numeral-spec =
     tie.close
     (tie.spec
-    numeral-len-requires
-    width-of-requires
-    fill-of-requires
-    frame-for-requires
-    frame-len-requires
-    add-total
-    write-head-requires
-    sub-write-numeral
-    part-write-numeral-start
-    part-write-numeral-end
-    write-numeral-requires
-    add-b
-    sub-write-tail
-    part-write-tail-start
-    part-write-tail-end
-    write-tail-requires
-    same-length
+    (λ c κs. search needs)
+    (λ c κs. search needs)
+    (λ c κs. search needs)
+    (λ c κs. search needs)
+    (λ c. omega (arith, room (c .before .before .before) (c .if1 .taken)))
+    (λ c. omega (arith, room (c .before .before .before) (c .if1 .taken)))
+    (λ c. search needs)
+    (λ c κs. let r = room (c .before .before .before .before) (c .before .if1 .taken) in search needs)
+    (λ c. search needs)
     returns
+    (λ c. search needs)
     returns-2)
