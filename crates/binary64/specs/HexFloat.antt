@@ -7,8 +7,8 @@ use lib.Dec.{ltb, eqb}
 use lib.ListN.{replicate}
 use Rattle.writing.specs.Choose.{choose}
 use Rattle.numerals.specs.Digits.{digitsIn, lettersOf, decimal}
-use Rattle.numerals.specs.declared.NumericParam.{NumericParam}
-use Rattle.numerals.specs.declared.NumericParam.the-variants.{Literal, FromArgument}
+use Rattle.params.specs.declared.NumericParam.{NumericParam}
+use Rattle.params.specs.declared.NumericParam.the-variants.{Literal, FromArgument}
 use Rattle.binary64.specs.Fields.{exponentField, fractionField, scaledBits}
 use Rattle.binary64.specs.Rounding.{nearestTo, keptDigits}
 use Rattle.binary64.specs.declared.HexFloat.{HexFloat}

@@ -1,7 +1,7 @@
 // binary64 values as hexadecimal text: fields, category, exact scaling, rounding, and the digits of %a without mark, prefix and padding.
 // Ported in part from format_string.rs of datafusion-spark 55.2.0 (Apache-2.0; see NOTICE): FloatBits::to_parts,
 // trim_trailing_0s_hex, and the digits of format_hex_float.
-use numerals::NumericParam;
+use params::NumericParam;
 ghost use mathlib.Core.Path.{_≡_};
 ghost use mathlib.Core.Bool.{Bool};
 ghost use Prim.Native.Nat.{_+_, _-_, _*_, _/_, _^_, _≤_, _<_};

@@ -5,7 +5,7 @@ use Rattle.writing.specs.Text.{has}
 use Rattle.numerals.specs.Digits.{digitsIn, placesWithin, places, digits, numberFrom, numberOf, letterOf, lettersOf, numeral}
 use Rattle.numerals.specs.Grouping.{grouped}
 use Rattle.numerals.specs.Integers.{intOf}
-use Rattle.numerals.specs.Params.{leadingDigits, numberTaken, numberAt, paramAt}
+use Rattle.params.specs.Params.{leadingDigits, numberTaken, numberAt, paramAt}
 use Rattle.numerals.specs.LittleEndian.{littleEndian, wordAt}
 use Rattle.layout.specs.Frame.{spaces, headText, tailText, framed, spare, frameOf, padded}
 use Rattle.binary64.specs.Fields.{negative, exponentField, fractionField, categoryOf, scaledBits}

@@ -7,7 +7,7 @@ use mathlib.Core.List.{List}
 use lib.IntN.{ℤ}
 use Rattle.writing.specs.Choose.{choose}
 use Rattle.numerals.specs.Integers.{intOf, bitsOf}
-use Rattle.numerals.specs.declared.NumericParam.{NumericParam}
+use Rattle.params.specs.declared.NumericParam.{NumericParam}
 use Rattle.binary64.specs.Fields.{categoryOf}
 use Rattle.binary64.specs.declared.FpCategory.{FpCategory}
 use Rattle.binary64.specs.declared.FpCategory.the-variants as C

@@ -11,8 +11,8 @@ use Rattle.writing.specs.Text.{ascii}
 use Rattle.numerals.specs.Digits.{numeral, decimal}
 use Rattle.numerals.specs.Grouping.{grouped}
 use Rattle.numerals.specs.Integers.{intOf, isNegative}
-use Rattle.numerals.specs.declared.NumericParam.{NumericParam}
-use Rattle.numerals.specs.declared.NumericParam.the-variants.{Literal, FromArgument}
+use Rattle.params.specs.declared.NumericParam.{NumericParam}
+use Rattle.params.specs.declared.NumericParam.the-variants.{Literal, FromArgument}
 use Rattle.layout.specs.Frame.{padded}
 use Rattle.layout.specs.declared.Mark.{Mark}
 use Rattle.layout.specs.declared.Mark.the-variants.{NoMark, Plus, Space, Minus, Brackets}

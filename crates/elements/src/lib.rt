@@ -8,7 +8,7 @@ use conversions::Radix;
 use layout::Adjust;
 use layout::Mark;
 use layout::Prefix;
-use numerals::NumericParam;
+use params::NumericParam;
 use specifiers::Element;
 use specifiers::Flags;
 ghost use mathlib.Core.Path.{_≡_};

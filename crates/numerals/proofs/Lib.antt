@@ -2,5 +2,4 @@ pub mod Digits
 pub mod Bases
 pub mod Integers
 pub mod Grouping
-pub mod Params
 pub mod LittleEndian

@@ -1,6 +1,5 @@
 pub mod Digits
 pub mod Grouping
 pub mod Integers
-pub mod Params
 pub mod Bases
 pub mod LittleEndian

@@ -11,11 +11,11 @@ use borrow.Author.Tests.{ltb-true, ltb-false, leb-true, leb-false, eqb-true, eqb
 use Rattle.refusals.specs.Limits.{mostFormat, mostKinds, mostPieces, largestNumber}
 use Rattle.writing.proofs.Choose.{by-test, both}
 use Rattle.numerals.specs.Digits.{numberOf}
-use Rattle.numerals.specs.Params.{isDigit, isParam, leadingDigits, numberTaken, numberAt, paramAt}
-use Rattle.numerals.specs.declared.Number.{Number}
-use Rattle.numerals.specs.declared.NumericParam.{NumericParam}
-use Rattle.numerals.specs.declared.Taken.{Taken}
-use Rattle.numerals.specs.declared.Taken.the-variants.{Param, TooLarge}
+use Rattle.params.specs.Params.{isDigit, isParam, leadingDigits, numberTaken, numberAt, paramAt}
+use Rattle.params.specs.declared.Number.{Number}
+use Rattle.params.specs.declared.NumericParam.{NumericParam}
+use Rattle.params.specs.declared.Taken.{Taken}
+use Rattle.params.specs.declared.Taken.the-variants.{Param, TooLarge}
 use Rattle.utf8.specs.Utf8.{wellFormed}
 use Rattle.conversions.specs.Kinds.{fitsKind}
 use Rattle.specifiers.specs.Flags.{flagsAt}

@@ -12,10 +12,10 @@ use borrow.Author.Tests.{leb-true, eqb-false, not-true}
 use Rattle.refusals.specs.Limits.{largestNumber}
 use Rattle.writing.proofs.Choose.{by-test, both}
 use Rattle.numerals.specs.Digits.{numberFrom, numberOf}
-use Rattle.numerals.specs.Params.{isDigit, isParam, leadingDigits, numberTaken, numberAt}
-use Rattle.numerals.specs.declared.Number.{Number}
-use Rattle.numerals.specs.declared.Number.the-variants as N
-use Rattle.numerals.proofs.Params.{number-grows}
+use Rattle.params.specs.Params.{isDigit, isParam, leadingDigits, numberTaken, numberAt}
+use Rattle.params.specs.declared.Number.{Number}
+use Rattle.params.specs.declared.Number.the-variants as N
+use Rattle.params.proofs.Params.{number-grows}
 use Rattle.specifiers.specs.Specifier.{beginsWith}
 use Rattle.specifiers.proofs.Bytes.{begins-inside}
 use Rattle.parsing.specs.Pieces.{within, isIndex, indexOf, indexAt, sameIndex, argumentAt}

@@ -8,7 +8,7 @@ use lib.ListN.{length, getD, drop}
 use native.Mathlib.Decide.{decLt}
 use native.Mathlib.Omega.{arith}
 use borrow.Author.Tests.{eq-eqb, ne-eqb, le-leb, lt-leb}
-use Rattle.numerals.specs.Params.{beginsParam, isParam}
+use Rattle.params.specs.Params.{beginsParam, isParam}
 use Rattle.conversions.specs.Kinds.{kindOf}
 use Rattle.specifiers.proofs.Bytes.{byte-at, no-byte}
 use Rattle.parsing.specs.Pieces.{textLength}

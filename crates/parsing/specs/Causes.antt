@@ -8,9 +8,9 @@ use lib.Dec.{leb}
 use lib.ListN.{length, getD, drop}
 use Rattle.refusals.specs.Limits.{mostFormat, mostKinds, mostPieces, largestNumber}
 use Rattle.numerals.specs.Digits.{numberOf}
-use Rattle.numerals.specs.Params.{leadingDigits, paramAt}
-use Rattle.numerals.specs.declared.NumericParam.{NumericParam}
-use Rattle.numerals.specs.declared.Taken.the-variants.{Param, TooLarge}
+use Rattle.params.specs.Params.{leadingDigits, paramAt}
+use Rattle.params.specs.declared.NumericParam.{NumericParam}
+use Rattle.params.specs.declared.Taken.the-variants.{Param, TooLarge}
 use Rattle.utf8.specs.Utf8.{wellFormed}
 use Rattle.conversions.specs.Kinds.{fitsKind}
 use Rattle.conversions.specs.declared.ConversionType.{ConversionType}

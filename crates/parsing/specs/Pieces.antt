@@ -6,9 +6,9 @@ use mathlib.Core.List.{List, [], _∷_}
 use lib.Dec.{leb, eqb}
 use lib.ListN.{length, getD, drop}
 use Rattle.writing.specs.Choose.{choose}
-use Rattle.numerals.specs.Params.{isParam, leadingDigits, numberAt}
-use Rattle.numerals.specs.declared.Number.{Number}
-use Rattle.numerals.specs.declared.Number.the-variants as N
+use Rattle.params.specs.Params.{isParam, leadingDigits, numberAt}
+use Rattle.params.specs.declared.Number.{Number}
+use Rattle.params.specs.declared.Number.the-variants as N
 use Rattle.specifiers.specs.Specifier.{beginsWith, specifierAt}
 use Rattle.specifiers.specs.declared.Specifier.{Specifier}
 use Rattle.specifiers.specs.declared.Specifier.the-variants as S

@@ -3,7 +3,7 @@
 // vector of elements; here a cursor reads the format again from an offset.
 mod scan;
 
-use numerals::Number;
+use params::Number;
 use specifiers::Element;
 use specifiers::Specifier;
 ghost use mathlib.Core.Path.{_≡_};
@@ -67,7 +67,7 @@ fn is_index(fmt: &[u8], at: usize) -> bool
         if b'9' < fmt[at] {
             return false;
         }
-        return specifiers::is_byte(fmt, numerals::digits_end(fmt, at), b'$');
+        return specifiers::is_byte(fmt, params::digits_end(fmt, at), b'$');
     }
     false
 }
@@ -98,7 +98,7 @@ fn take_index(fmt: &[u8], at: usize, count: usize, kinds: usize) -> Index
         };
     }
     if is_index(fmt, at) {
-        let Number::Value { value, next } = numerals::take_number(fmt, at) else {
+        let Number::Value { value, next } = params::take_number(fmt, at) else {
             return Index::Refused {
                 number: refusals::LARGE_NUMBER,
             };

@@ -5,7 +5,7 @@ use Rattle.writing.specs.Laid.{laid}
 use Rattle.numerals.specs.Digits.{digitsIn, places, placesWithin, digits, letterOf, lettersOf, numberFrom, numberOf, numeral}
 use Rattle.numerals.specs.Grouping.{grouped}
 use Rattle.numerals.specs.Integers.{intOf, bitsOf}
-use Rattle.numerals.specs.Params.{leadingDigits, numberTaken, numberAt, paramAt}
+use Rattle.params.specs.Params.{leadingDigits, numberTaken, numberAt, paramAt}
 use Rattle.layout.specs.Frame.{spaces, headText, tailText, framed, spare, frameOf}
 use Rattle.binary64.specs.Fields.{negative, exponentField, fractionField, categoryOf, significand, units, scaledBits}
 use Rattle.binary64.specs.Rounding.{nearestTo, keptDigits}

@@ -9,7 +9,7 @@ use lib.Dec.{lit≤}
 use Rattle.writing.specs.Choose.{choose}
 use Rattle.numerals.specs.Digits.{digits, lettersOf}
 use Rattle.numerals.specs.Integers.{signed}
-use Rattle.numerals.specs.declared.NumericParam.{NumericParam}
+use Rattle.params.specs.declared.NumericParam.{NumericParam}
 use Rattle.layout.specs.Frame.{closing}
 use Rattle.layout.specs.Signs.{isMinus}
 use Rattle.layout.specs.declared.Mark.{Mark}

@@ -9,13 +9,13 @@ use native.Mathlib.Omega.{arith}
 use lib.Dec.{eqb}
 use lib.ListN.{length, drop, length-drop}
 use Rattle.writing.proofs.Choose.{by-test}
-use Rattle.numerals.specs.Params.{isParam, numberAt, paramOf, paramAt}
-use Rattle.numerals.specs.declared.NumericParam.{NumericParam}
-use Rattle.numerals.specs.declared.Number.{Number}
-use Rattle.numerals.specs.declared.Number.the-variants as N
-use Rattle.numerals.specs.declared.Taken.{Taken}
-use Rattle.numerals.specs.declared.Taken.the-variants.{Param, TooLarge}
-use Rattle.numerals.proofs.Params.{NumberIn, number-in}
+use Rattle.params.specs.Params.{isParam, numberAt, paramOf, paramAt}
+use Rattle.params.specs.declared.NumericParam.{NumericParam}
+use Rattle.params.specs.declared.Number.{Number}
+use Rattle.params.specs.declared.Number.the-variants as N
+use Rattle.params.specs.declared.Taken.{Taken}
+use Rattle.params.specs.declared.Taken.the-variants.{Param, TooLarge}
+use Rattle.params.proofs.Params.{NumberIn, number-in}
 use Rattle.conversions.specs.Letters.{timeOf, smallOf, capitalOf}
 use Rattle.conversions.specs.Kinds.{fitsKind}
 use Rattle.conversions.specs.declared.Letter.{Letter}

@@ -6,11 +6,11 @@ use mathlib.Core.List.{List, [], _∷_}
 use lib.Dec.{eqb}
 use lib.ListN.{drop}
 use Rattle.writing.specs.Choose.{choose}
-use Rattle.numerals.specs.Params.{paramAt}
-use Rattle.numerals.specs.declared.NumericParam.{NumericParam}
-use Rattle.numerals.specs.declared.NumericParam.the-variants.{Literal, FromArgument}
-use Rattle.numerals.specs.declared.Taken.{Taken}
-use Rattle.numerals.specs.declared.Taken.the-variants.{Param, TooLarge}
+use Rattle.params.specs.Params.{paramAt}
+use Rattle.params.specs.declared.NumericParam.{NumericParam}
+use Rattle.params.specs.declared.NumericParam.the-variants.{Literal, FromArgument}
+use Rattle.params.specs.declared.Taken.{Taken}
+use Rattle.params.specs.declared.Taken.the-variants.{Param, TooLarge}
 use Rattle.conversions.specs.Letters.{timeOf, smallOf, capitalOf}
 use Rattle.conversions.specs.Kinds.{fitsKind}
 use Rattle.conversions.specs.declared.ConversionType.{ConversionType}

@@ -3,8 +3,8 @@
 use conversions::ConversionType;
 use conversions::Letter;
 use conversions::TimeLetter;
-use numerals::NumericParam;
-use numerals::Taken;
+use params::NumericParam;
+use params::Taken;
 ghost use mathlib.Core.Path.{_≡_};
 ghost use mathlib.Core.List.{List, []};
 ghost use Prim.Native.Nat.{ℕ, _<_};
@@ -187,7 +187,7 @@ fn take_precision(fmt: &[u8], at: usize) -> Taken
     ensures { λ r. ⌜ r ≡ precisionAt (now (fmt .entry)) at ⌝ }
 {
     if is_byte(fmt, at, b'.') {
-        return numerals::take_numeric_param(fmt, at + 1, true);
+        return params::take_numeric_param(fmt, at + 1, true);
     }
     Taken::Param {
         param: NumericParam::FromArgument,
@@ -328,7 +328,7 @@ fn take_parts(fmt: &[u8], at: usize) -> PartsTaken
     let Taken::Param {
         param: width,
         next: p,
-    } = numerals::take_numeric_param(fmt, w, false)
+    } = params::take_numeric_param(fmt, w, false)
     else {
         return PartsTaken::Refused {
             number: refusals::LARGE_NUMBER,

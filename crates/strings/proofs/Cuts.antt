@@ -9,8 +9,8 @@ use lib.ListN.{length, getD, take, length-take}
 use lib.Seq.{take-all, length-take-le}
 use borrow.Author.Tests.{le-leb, lt-leb, le-ltb, ltb-true, ltb-false}
 use Rattle.writing.proofs.Choose.{by-test}
-use Rattle.numerals.specs.declared.NumericParam.{NumericParam}
-use Rattle.numerals.specs.declared.NumericParam.the-variants.{Literal, FromArgument}
+use Rattle.params.specs.declared.NumericParam.{NumericParam}
+use Rattle.params.specs.declared.NumericParam.the-variants.{Literal, FromArgument}
 use Rattle.strings.specs.Cut.{continues, backTo, cutLength, cutTo}
 
 module _ (s : List ℕ) where

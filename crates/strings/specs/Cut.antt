@@ -6,8 +6,8 @@ use mathlib.Core.List.{List, [], _∷_, map}
 use lib.Dec.{leb, ltb}
 use lib.ListN.{length, getD, take}
 use Rattle.writing.specs.Choose.{choose}
-use Rattle.numerals.specs.declared.NumericParam.{NumericParam}
-use Rattle.numerals.specs.declared.NumericParam.the-variants.{Literal, FromArgument}
+use Rattle.params.specs.declared.NumericParam.{NumericParam}
+use Rattle.params.specs.declared.NumericParam.the-variants.{Literal, FromArgument}
 
 -- A byte that continues a character: Unicode's table 3-7 gives 80 to BF to all bytes but the first.
 abbrev pub continues : ℕ → Bool

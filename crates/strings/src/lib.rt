@@ -1,7 +1,7 @@
 // Text values: cut to a precision, in capitals, and characters by number.
 // Ported from format_string.rs of datafusion-spark 55.2.0 (Apache-2.0; see NOTICE): the cut of format_str, the capitals of
 // format_string, and codepoint_to_char with the encoding of format_char.
-use numerals::NumericParam;
+use params::NumericParam;
 ghost use mathlib.Core.Path.{_≡_};
 ghost use mathlib.Core.List.{map};
 ghost use Prim.Native.Nat.{_≤_, _<_};

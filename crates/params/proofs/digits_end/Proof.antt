@@ -1,13 +1,13 @@
--- `numerals::digits_end` meets its contract. The loop's invariant: the digits from `end` on end where those from the start do. Assumes nothing.
+-- `params::digits_end` meets its contract. The loop's invariant: the digits from `end` on end where those from the start do. Assumes nothing.
 use Prim.Native.Nat.{_+_, _-_}
 use mathlib.Core.Path.{_≡_, refl, ap}
 use lib.ListN.{length, drop}
 use native.Mathlib.Omega.{arith}
-use Rattle.numerals.specs.Params.{leadingDigits}
-use Rattle.numerals.proofs.Params.{end-of-text, below-digit, above-digit, digit-at}
+use Rattle.params.specs.Params.{leadingDigits}
+use Rattle.params.proofs.Params.{end-of-text, below-digit, above-digit, digit-at}
 use borrow.Author.Needs.{needs}
-use Rattle.numerals.proofs.digits_end.Statement.{statement}
-use Rattle.numerals.proofs.digits_end.Tie as tie
+use Rattle.params.proofs.digits_end.Statement.{statement}
+use Rattle.params.proofs.digits_end.Tie as tie
 
 abbrev Inv-loop : tie.InvT-loop
 Inv-loop s at end₀ end = end + length (leadingDigits (drop end s)) ≡ at + length (leadingDigits (drop at s))

@@ -1,13 +1,13 @@
--- `numerals::take_number` meets its contract. The loop's invariant: the value of the digits read, followed by the digits from i on, is the whole number.
+-- `params::take_number` meets its contract. The loop's invariant: the value of the digits read, followed by the digits from i on, is the whole number.
 -- Assumes nothing.
 use Prim.Native.Nat.{_≤_, _-_}
 use lib.ListN.{length}
 use native.Mathlib.Omega.{arith}
 use Rattle.refusals.specs.Limits.{largestNumber}
-use Rattle.numerals.proofs.Params.{ReadTo, read-none, end-of-text, below-digit, above-digit, read-end, read-digit, read-large}
+use Rattle.params.proofs.Params.{ReadTo, read-none, end-of-text, below-digit, above-digit, read-end, read-digit, read-large}
 use borrow.Author.Needs.{needs}
-use Rattle.numerals.proofs.take_number.Statement.{statement}
-use Rattle.numerals.proofs.take_number.Tie as tie
+use Rattle.params.proofs.take_number.Statement.{statement}
+use Rattle.params.proofs.take_number.Tie as tie
 
 abbrev Inv-loop : tie.InvT-loop
 Inv-loop s at i₀ value₀ i value = (value ≤ largestNumber) × ReadTo s at i value

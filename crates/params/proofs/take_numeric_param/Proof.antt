@@ -1,13 +1,13 @@
--- `numerals::take_numeric_param` meets its contract. Assumes nothing.
+-- `params::take_numeric_param` meets its contract. Assumes nothing.
 use mathlib.Core.Bool.{true, false}
 use mathlib.Core.Path.{_≡_, sym, ap, _∙_}
 use native.Mathlib.Omega.{arith}
-use Rattle.numerals.specs.Params.{paramOf, paramAt}
-use Rattle.numerals.specs.declared.Taken.{Taken}
-use Rattle.numerals.proofs.Params.{param-at, param-past}
+use Rattle.params.specs.Params.{paramOf, paramAt}
+use Rattle.params.specs.declared.Taken.{Taken}
+use Rattle.params.proofs.Params.{param-at, param-past}
 use borrow.Author.Needs.{needs}
-use Rattle.numerals.proofs.take_numeric_param.Statement.{statement}
-use Rattle.numerals.proofs.take_numeric_param.Tie as tie
+use Rattle.params.proofs.take_numeric_param.Statement.{statement}
+use Rattle.params.proofs.take_numeric_param.Tie as tie
 
 -- the parameter that stands at the place
 abbrev here : tie.After-begins-param → Taken

@@ -7,12 +7,12 @@ use lib.Dec.{leb, eqb}
 use lib.ListN.{length, drop}
 use Rattle.refusals.specs.Limits.{largestNumber}
 use Rattle.writing.specs.Choose.{choose}
 use Rattle.numerals.specs.Digits.{numberOf}
-use Rattle.numerals.specs.declared.NumericParam.the-variants.{Literal, FromArgument}
-use Rattle.numerals.specs.declared.Number.{Number}
-use Rattle.numerals.specs.declared.Number.the-variants as N
-use Rattle.numerals.specs.declared.Taken.{Taken}
-use Rattle.numerals.specs.declared.Taken.the-variants.{Param, TooLarge}
+use Rattle.params.specs.declared.NumericParam.the-variants.{Literal, FromArgument}
+use Rattle.params.specs.declared.Number.{Number}
+use Rattle.params.specs.declared.Number.the-variants as N
+use Rattle.params.specs.declared.Taken.{Taken}
+use Rattle.params.specs.declared.Taken.the-variants.{Param, TooLarge}
 
 abbrev pub isDigit : ℕ → Bool
 isDigit c = leb (code "0") c && leb c (code "9")

@@ -1,10 +1,10 @@
--- `numerals::begins_param` meets its contract. Assumes nothing.
+-- `params::begins_param` meets its contract. Assumes nothing.
 use Prim.Native.Char.{code}
 use mathlib.Core.Path.{sym}
 use mathlib.Core.Bool.{or-true, or-false}
 use borrow.Author.Tests.{le-leb, lt-leb, eq-eqb, ne-eqb}
-use Rattle.numerals.proofs.begins_param.Statement.{statement}
-use Rattle.numerals.proofs.begins_param.Tie as tie
+use Rattle.params.proofs.begins_param.Statement.{statement}
+use Rattle.params.proofs.begins_param.Tie as tie
 
 returns : tie.Need-returns
 returns c = simp (lt-leb (code "0") _ (c .if1 .taken))

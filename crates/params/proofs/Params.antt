@@ -14,12 +14,12 @@ use borrow.Author.Tests.{leb-true, leb-false, le-leb, lt-leb}
 use Rattle.refusals.specs.Limits.{largestNumber}
 use Rattle.writing.specs.Choose.{choose}
 use Rattle.writing.proofs.Choose.{by-test}
 use Rattle.numerals.specs.Digits.{numberFrom, numberOf}
-use Rattle.numerals.specs.Params.{isDigit, leadingDigits, numberTaken, numberAt, beginsParam, isParam, paramOf, paramAt}
-use Rattle.numerals.specs.declared.NumericParam.the-variants.{Literal, FromArgument}
-use Rattle.numerals.specs.declared.Number.{Number}
-use Rattle.numerals.specs.declared.Number.the-variants as N
-use Rattle.numerals.specs.declared.Taken.the-variants.{Param, TooLarge}
+use Rattle.params.specs.Params.{isDigit, leadingDigits, numberTaken, numberAt, beginsParam, isParam, paramOf, paramAt}
+use Rattle.params.specs.declared.NumericParam.the-variants.{Literal, FromArgument}
+use Rattle.params.specs.declared.Number.{Number}
+use Rattle.params.specs.declared.Number.the-variants as N
+use Rattle.params.specs.declared.Taken.the-variants.{Param, TooLarge}
 
 -- More digits never make a number smaller.
 pub number-grows : (v : ℕ) (ds : List ℕ) → v ≤ numberFrom 10 v ds
