@@ -10,7 +10,7 @@ use borrow.Author.Tests.{le-leb, lt-leb, ne-eqb}
 use lib.Dec.{eqb}
 use lib.ListN.{length, drop, getD, drop-of-length-le}
 use lib.Seq.{drop-cons}
-use Rattle.utf8.specs.Utf8.{within, leadOf, afterLead, wellFormedFrom, wellFormed}
+use Rattle.utf8.specs.Utf8.{within, row, leadOf, afterLead, wellFormedFrom, wellFormed}
 use Rattle.utf8.specs.declared.Lead.the-variants.{Follow, NoLead}
 
 -- A range of bytes below a byte, one above it, and one around it.
@@ -60,9 +60,10 @@ lead-three b m n e =
       )
     ])
 
-pub lead-four : (b : ℕ) → 0xf0 < b → b < 0xf4 → leadOf b ≡ Follow 3 0x80 0xbf
+-- above F0 the rows of two and three bytes are passed over
+above-f0 : (b : ℕ) → 0xf0 < b → leadOf b ≡ row 0xf1 0xf3 (Follow 3 0x80 0xbf) b (λ _. row 0xf4 0xf4 (Follow 3 0x80 0x8f) b (λ _. NoLead))
 unfolding leadOf
-lead-four b m n =
+above-f0 b m =
     simp (
       above 0x00 0x7f b (omega arith) (omega arith),
       above 0xc2 0xdf b (omega arith) (omega arith),
@@ -71,23 +72,13 @@ lead-four b m n =
       above 0xed 0xed b (omega arith) (omega arith),
       above 0xee 0xef b (omega arith) (omega arith),
       above 0xf0 0xf0 b (omega arith) (omega arith),
-      inside 0xf1 0xf3 b (omega arith) (omega arith),
     )
 
+pub lead-four : (b : ℕ) → 0xf0 < b → b < 0xf4 → leadOf b ≡ Follow 3 0x80 0xbf
+lead-four b m n = above-f0 b m ∙ simp (inside 0xf1 0xf3 b (omega arith) (omega arith))
+
 pub no-lead-above : (b : ℕ) → 0xf4 < b → leadOf b ≡ NoLead
-unfolding leadOf
-no-lead-above b h =
-    simp (
-      above 0x00 0x7f b (omega arith) (omega arith),
-      above 0xc2 0xdf b (omega arith) (omega arith),
-      above 0xe0 0xe0 b (omega arith) (omega arith),
-      above 0xe1 0xec b (omega arith) (omega arith),
-      above 0xed 0xed b (omega arith) (omega arith),
-      above 0xee 0xef b (omega arith) (omega arith),
-      above 0xf0 0xf0 b (omega arith) (omega arith),
-      above 0xf1 0xf3 b (omega arith) (omega arith),
-      above 0xf4 0xf4 b (omega arith) (omega arith),
-    )
+no-lead-above b h = above-f0 b (omega arith) ∙ simp (above 0xf1 0xf3 b (omega arith) (omega arith), above 0xf4 0xf4 b (omega arith) (omega arith))
 
 -- Read up to i, with `need` bytes to follow and the next of them between low and high, the rest of a text decides.
 pub record ReadTo (s : List ℕ) (i need low high : ℕ) : Type 0 where

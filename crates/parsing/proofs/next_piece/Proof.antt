@@ -1,12 +1,16 @@
 -- `parsing::next_piece` meets its contract. Assumes nothing.
-use mathlib.Core.Path.{_≡_, ap, _∙_}
+use mathlib.Core.Path.{_≡_, sym, ap, _∙_}
+use Prim.Native.Nat.{_+_}
 use Prim.Native.Char.{code}
 use lib.ListN.{drop, length-drop}
 use native.Mathlib.Omega.{arith}
 use borrow.Rule.Slice.PartAt.{part-to-end}
 use borrow.Author.Tests.{eq-eqb, ne-eqb}
+use Rattle.writing.specs.Choose.{choose}
 use Rattle.specifiers.proofs.Bytes.{begins-at}
-use Rattle.parsing.specs.Pieces.{textLength, pieceAt}
+use Rattle.parsing.specs.Pieces.{passed, textLength, elementAt, pieceAt}
+use Rattle.parsing.specs.declared.Piece.the-variants.{Byte}
+use Rattle.parsing.specs.declared.Step.the-variants.{Found}
 use Rattle.parsing.proofs.Progress.{text-in}
 use borrow.Author.Needs.{needs}
 use Rattle.parsing.proofs.next_piece.Statement.{statement}
@@ -83,40 +87,33 @@ add-passed-by-3 c = search needs
 passed-by-requires-3 : tie.Need-passed-by-requires-3
 passed-by-requires-3 c κs = search needs
 
-returns-3 : tie.Need-returns-3
+-- behind a `%` that no other follows, by the test for `n`
+by-second : (c : tie.After-is-byte2) →
+    let percent = c .before .before .before in
+    let a = percent .before .before .before .before .args in
+    pieceAt (a .fmt .now) (a .kinds .now) (a .c)
+    ≡ choose (c .is-byte2 .result) (λ _. Found (Byte 10) (passed (a .c) (a .c .at + 2))) (λ _. elementAt (a .fmt .now) (a .kinds .now) (a .c))
 unfolding pieceAt
-returns-3 c =
-    let second = c .before .before .before .before in
+by-second c =
+    let second = c .before .before in
     let percent = second .before in
     let a = percent .before .before .before .before .args in
     simp (
       begins-at (a .fmt .now) (a .c .at) (code "%") (omega arith),
       eq-eqb _ _ (percent .if1 .left),
       ← second .is-byte .ensures,
-      c .before .before .before .if2 .left,
-      ← c .before .before .is-byte2 .ensures,
-      c .before .if3 .taken,
-      c .passed-by3 .ensures,
+      c .before .if2 .left,
+      ← c .is-byte2 .ensures,
     )
+
+returns-3 : tie.Need-returns-3
+returns-3 c = sym (simp (c .before .if3 .taken, ← c .passed-by3 .ensures) at (by-second (c .before .before)))
 
 take-element-requires : tie.Need-take-element-requires
 take-element-requires c κs = search needs
 
 returns-4 : tie.Need-returns-4
-unfolding pieceAt
-returns-4 c =
-    let second = c .before .before .before .before in
-    let percent = second .before in
-    let a = percent .before .before .before .before .args in
-    simp (
-      begins-at (a .fmt .now) (a .c .at) (code "%") (omega arith),
-      eq-eqb _ _ (percent .if1 .left),
-      ← second .is-byte .ensures,
-      c .before .before .before .if2 .left,
-      ← c .before .before .is-byte2 .ensures,
-      c .before .if3 .left,
-    )
-    (c .take-element .ensures)
+returns-4 c = c .take-element .ensures ∙ sym (simp (c .before .if3 .left) at (by-second (c .before .before)))
 
 pub next-piece-spec : {M : Type 1} → statement M
 next-piece-spec =

@@ -1,9 +1,9 @@
 -- `parsing::take_index` meets its contract. Assumes nothing.
-use mathlib.Core.Path.{sym, _∙_}
+use mathlib.Core.Path.{_≡_, sym, _∙_}
 use Prim.Native.Nat.{_+_, _≤_, _<_}
 use native.Mathlib.Omega.{arith}
 use borrow.Author.Tests.{le-leb, lt-leb}
-use Rattle.parsing.specs.Pieces.{indexAt}
+use Rattle.parsing.specs.Pieces.{indexOf, indexAt}
 use Rattle.parsing.proofs.Indexes.{index-inside}
 use borrow.Author.Needs.{needs}
 use Rattle.parsing.proofs.take_index.Statement.{statement}
@@ -28,19 +28,24 @@ enum-known-value c = search needs
 enum-told : tie.Need-enum-told
 enum-told c = search needs
 
-returns-2 : tie.Need-returns-2
+-- an index, by the number of its digits
+numbered : (c : tie.After-take-number) →
+    let index = c .before .before in
+    let a = index .before .before .before .before .args in
+    indexAt (a .fmt .now) (a .kinds) (a .at) (a .count) ≡ indexOf (c .take-number .result) (a .kinds) (a .count)
 unfolding indexAt
-returns-2 c =
-    let number = c .before .before in
-    let index = number .before .before in
+numbered c =
+    let index = c .before .before in
     simp (
       ← index .before .before .is-byte .ensures,
       index .before .if1 .left,
       ← index .is-index .ensures,
-      number .before .if2 .taken,
-      ← number .take-number .ensures,
-      c .enum-told .given .1,
+      c .before .if2 .taken,
+      ← c .take-number .ensures,
     )
+
+returns-2 : tie.Need-returns-2
+returns-2 c = sym (simp (c .enum-told .given .1) at (numbered (c .before .before)))
 
 cast-named : tie.Need-cast-named
 cast-named c = search needs
@@ -59,19 +64,7 @@ named-requires : tie.Need-named-requires
 named-requires c κs = search needs
 
 returns-3 : tie.Need-returns-3
-unfolding indexAt
-returns-3 c =
-    let number = c .before .before .before .before in
-    let index = number .before .before in
-    simp (
-      ← index .before .before .is-byte .ensures,
-      index .before .if1 .left,
-      ← index .is-index .ensures,
-      number .before .if2 .taken,
-      ← number .take-number .ensures,
-      c .before .before .value .given .1,
-    )
-    (c .named .ensures)
+returns-3 c = c .named .ensures ∙ sym (simp (c .before .before .value .given .1) at (numbered (c .before .before .before .before)))
 
 returns-4 : tie.Need-returns-4
 unfolding indexAt

@@ -1,6 +1,7 @@
 -- `specifiers::take_conversion_specifier` meets its contract: each step's answer is what its contract says. Assumes nothing.
+use mathlib.Core.Path.{_≡_, sym}
 use borrow.Author.Needs.{needs}
-use Rattle.specifiers.specs.Specifier.{specifierAt}
+use Rattle.specifiers.specs.Specifier.{fitted, specifierAt}
 use Rattle.specifiers.proofs.take_conversion_specifier.Statement.{statement}
 use Rattle.specifiers.proofs.take_conversion_specifier.Tie as tie
 
@@ -19,35 +20,34 @@ returns-2 c =
     simp (← parts .before .before .take-parts .ensures, parts .taken .given .1, ← letter .take-letter .ensures, told .enum-told2 .given .1)
     (simp (told .enum-told2 .given .1) at (c .letter-refusal .ensures))
 
-returns-3 : tie.Need-returns-3
+-- by whether the letter fits
+judged : (c : tie.After-validate) →
+    let letter = c .before .before in
+    let parts = letter .before .before .before .before in
+    let a = parts .before .before .before .args in
+    let read = letter .letter .given .0 in
+    specifierAt (a .fmt .now) (a .at) (a .argument) (a .kind)
+    ≡ fitted (a .argument) (a .kind) (parts .taken .given .0 .0) (read .0) (read .1 .0) (read .1 .1 .0)
 unfolding specifierAt
-returns-3 c =
-    let judged = c .before .before in
-    let letter = judged .before .before in
+judged c =
+    let letter = c .before .before in
     let parts = letter .before .before .before .before in
     simp (
       ← parts .before .before .take-parts .ensures,
       parts .taken .given .1,
       ← letter .before .before .take-letter .ensures,
       letter .letter .given .1,
-      ← judged .validate .ensures,
-      c .before .if1 .taken,
     )
 
+returns-3 : tie.Need-returns-3
+returns-3 c =
+    let fit = c .before .before in
+    sym (simp (← fit .validate .ensures, c .before .if1 .taken) at (judged fit))
+
 returns-4 : tie.Need-returns-4
-unfolding specifierAt
 returns-4 c =
-    let judged = c .before in
-    let letter = judged .before .before in
-    let parts = letter .before .before .before .before in
-    simp (
-      ← parts .before .before .take-parts .ensures,
-      parts .taken .given .1,
-      ← letter .before .before .take-letter .ensures,
-      letter .letter .given .1,
-      ← judged .validate .ensures,
-      c .if1 .left,
-    )
+    let fit = c .before in
+    sym (simp (← fit .validate .ensures, c .if1 .left) at (judged fit))
 
 pub take-conversion-specifier-spec : {M : Type 1} → statement M
 take-conversion-specifier-spec =
