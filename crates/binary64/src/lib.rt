@@ -52,7 +52,7 @@ pub fn category(bits: u64) -> FpCategory
 }
 
 // A positive subnormal value times 2 to the 54th, as an f64 product. It is exact: see proofs/Scaled.antt.
-pub fn scale_up(bits: u64) -> u64
+fn scale_up(bits: u64) -> u64
     requires { ⌜ (1 ≤ bits) × (bits < 2 ^ 52) ⌝ }
     ensures { λ r. ⌜ r ≡ scaledBits bits ⌝ }
 {
@@ -62,7 +62,7 @@ pub fn scale_up(bits: u64) -> u64
 }
 
 // The whole number nearest to x / unit, at a tie the even one.
-pub fn nearest_to(x: u64, unit: u64) -> u64
+fn nearest_to(x: u64, unit: u64) -> u64
     requires { ⌜ (x < 2 ^ 62) × (0 < unit) ⌝ }
     ensures { λ r. ⌜ r ≡ nearestTo x unit ⌝ }
 {
@@ -89,7 +89,7 @@ pub struct HexFloat {
 }
 
 // How many of the 13 digits of a fraction are left without its trailing zeros: at least one.
-pub fn kept_digits(mantissa: u64) -> u32
+fn kept_digits(mantissa: u64) -> u32
     ensures { λ r. ⌜ r ≡ keptDigits 13 mantissa ⌝ }
 {
     let mut fraction = mantissa;
@@ -238,7 +238,7 @@ fn exponent_letter(upper: bool) -> u8
 }
 
 // The length of the exponent's text, in small letters and capitals alike.
-pub fn exponent_len(exponent: u32, bias: u32) -> usize
+fn exponent_len(exponent: u32, bias: u32) -> usize
     ensures { λ r. ⌜ ((u : Bool) → r ≡ length (exponentText u exponent bias)) ⌝ }
 {
     if exponent < bias {
@@ -248,7 +248,7 @@ pub fn exponent_len(exponent: u32, bias: u32) -> usize
 }
 
 // Writes p or P and the exponent in decimal. Answers the length.
-pub fn write_exponent(out: &mut [u8], exponent: u32, bias: u32, upper: bool) -> usize
+fn write_exponent(out: &mut [u8], exponent: u32, bias: u32, upper: bool) -> usize
     requires { ⌜ length (exponentText upper exponent bias) ≤ length (now out) ⌝ }
     ensures { λ r. ⌜ (r ≡ length (exponentText upper exponent bias)) × (now (out .exit) ≡ laid (now (out .entry)) (exponentText upper exponent bias)) ⌝ }
 {

@@ -17,7 +17,7 @@ use Rattle.conversions.specs.declared.IntegerForm.the-variants.{Numeral, Scalar
 use Rattle.conversions.specs.declared.Form.the-variants as F
 use Rattle.conversions.proofs.Tables.{OfByte, form-of}
 use Rattle.specifiers.specs.declared.Element.{Element}
-use Rattle.rows.specs.Row.{isNull, entryOf, entryAt, textOf, kindByteOf, valueOf}
+use Rattle.rows.specs.Row.{isNull, entryOf, entryAt, textArea, kindByteOf, valueOf}
 use Rattle.rows.specs.Arguments.{HasWidth, Argument}
 use Rattle.rows.proofs.Widths.{has-width}
 use Rattle.rows.proofs.Rows.{AllBytes, value-below, entry}
@@ -93,4 +93,4 @@ reads-back row bytes e a part =
     let k = kindByteOf row (e .argument) in
     let v = valueOf row (e .argument) in
     unstopped (ReadsBack e k v) (elementText e k part v)
-    (element-read e k (textOf row) part v (value-below row (e .argument) bytes) (entry row (a .kept) (e .argument) (a .first) (a .last)))
+    (element-read e k (textArea row) part v (value-below row (e .argument) bytes) (entry row (a .kept) (e .argument) (a .first) (a .last)))

@@ -1,3 +1,3 @@
-pub mod Lengths
-pub mod Chained
+mod Lengths
+mod Chained
 pub mod Padded

@@ -14,7 +14,7 @@ ghost use Rattle.numerals.specs.Grouping.{grouped};
 ghost use Rattle.numerals.specs.Integers.{intOf, isNegative};
 
 // The letter of a digit below 16: small, or capital where upper is set.
-pub fn digit_letter(digit: u64, upper: bool) -> u8
+fn digit_letter(digit: u64, upper: bool) -> u8
     requires { ⌜ digit < 16 ⌝ }
     ensures { λ r. ⌜ r ≡ letterOf upper digit ⌝ }
 {
@@ -59,7 +59,7 @@ pub fn decimal_len(x: u64) -> usize
 }
 
 // How many digits x has in base 2 ^ shift, from its highest set bit: one for 0. Octal is shift 3, hexadecimal shift 4.
-pub fn power_len(x: u64, shift: u32) -> u32
+fn power_len(x: u64, shift: u32) -> u32
     requires { ⌜ (1 ≤ shift) × (shift ≤ 63) ⌝ }
     ensures { λ r. ⌜ r ≡ places (2 ^ shift) x ⌝ }
 {

@@ -1,2 +1,2 @@
-pub mod Ends
-pub mod Slots
+mod Ends
+mod Slots

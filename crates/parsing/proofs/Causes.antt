@@ -27,7 +27,7 @@ use Rattle.specifiers.specs.declared.LetterTaken.{LetterTaken}
 use Rattle.specifiers.specs.declared.LetterTaken.the-variants as L
 use Rattle.specifiers.specs.declared.Specifier.{Specifier}
 use Rattle.specifiers.specs.declared.Specifier.the-variants as S
-use Rattle.parsing.specs.Pieces.{start, within, isIndex, indexOf, indexAt, sameIndex, argumentAt}
+use Rattle.parsing.specs.Pieces.{start, amongKinds, isIndex, indexOf, indexAt, sameIndex, argumentAt}
 use Rattle.parsing.specs.Pieces.{afterSpecifier, afterIndex, elementAt, pieceAt}
 use Rattle.parsing.specs.Listed.{afterStep, endFrom, placed, ended}
 use Rattle.parsing.specs.Check.{allKnown, checkedEnd, checked}
@@ -93,7 +93,7 @@ module _ (s ks : List ℕ) (c : Cursor) where
       read (S.Refused n) h = h
   element-caused (I.Refused n) h = h
 
-  within-caused : (a next count : ℕ) → Takes s c a next → IndexCaused (within (length ks) a next count)
+  within-caused : (a next count : ℕ) → Takes s c a next → IndexCaused (amongKinds (length ks) a next count)
   within-caused a next count takes =
       by-test IndexCaused (leb a (length ks)) _ _ (λ h. (takes, leb-true a (length ks) h)) (λ h. K.above takes (leb-false a (length ks) h))
 
@@ -171,7 +171,7 @@ module _ (s ks : List ℕ) (c : Cursor) where
 
   -- an element that takes the argument a: what holds of it, whatever the count behind it, holds of the step
   takes-step : {a next : ℕ} (n : ℕ) → Takes s c a next
-      → ((count : ℕ) → afterIndex s ks (within (length ks) a next count) ≡ Refused n) → pieceAt s ks c ≡ Refused n
+      → ((count : ℕ) → afterIndex s ks (amongKinds (length ks) a next count) ≡ Refused n) → pieceAt s ks c ≡ Refused n
   unfolding indexAt numberAt numberTaken
   takes-step n (K.same p e l) k = same-step p e ∙ simp (ne-eqb (c .last) 0 (λ z. omega arith)) (k (c .count))
   takes-step n (K.named p e l) k =

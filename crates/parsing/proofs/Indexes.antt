@@ -18,7 +18,7 @@ use Rattle.params.specs.declared.Number.the-variants as N
 use Rattle.params.proofs.Params.{number-grows}
 use Rattle.specifiers.specs.Specifier.{beginsWith}
 use Rattle.specifiers.proofs.Bytes.{begins-inside}
-use Rattle.parsing.specs.Pieces.{within, isIndex, indexOf, indexAt, sameIndex, argumentAt}
+use Rattle.parsing.specs.Pieces.{amongKinds, isIndex, indexOf, indexAt, sameIndex, argumentAt}
 use Rattle.parsing.specs.declared.Cursor.{Cursor}
 use Rattle.parsing.specs.declared.Index.{Index}
 use Rattle.parsing.specs.declared.Index.the-variants as I
@@ -58,7 +58,7 @@ NamedIn kinds at (I.Named a next count) = (1 ≤ a) × (a ≤ kinds) × (at ≤ 
 NamedIn kinds at (I.Refused number) = Unit {0}
 
 module _ (kinds at : ℕ) where
-  within-in : (a next count : ℕ) → 1 ≤ a → at ≤ next → NamedIn kinds at (within kinds a next count)
+  within-in : (a next count : ℕ) → 1 ≤ a → at ≤ next → NamedIn kinds at (amongKinds kinds a next count)
   within-in a next count h k = by-test (NamedIn kinds at) (leb a kinds) _ _ (λ e. (h, leb-true a kinds e, k)) (λ _. tt)
 
   index-in : (s : List ℕ) (count : ℕ) → NamedIn kinds at (indexAt s kinds at count)

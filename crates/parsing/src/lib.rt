@@ -9,7 +9,7 @@ use specifiers::Specifier;
 ghost use mathlib.Core.Path.{_≡_};
 ghost use Prim.Native.Nat.{_+_, _≤_, _<_};
 ghost use lib.ListN.{length};
-ghost use Rattle.parsing.specs.Pieces.{start, passed, isIndex, within, indexAt, sameIndex, argumentAt, elementAt, pieceAt};
+ghost use Rattle.parsing.specs.Pieces.{start, passed, isIndex, amongKinds, indexAt, sameIndex, argumentAt, elementAt, pieceAt};
 ghost use Rattle.parsing.specs.Refusals.{IndexHanded, SpecifierHanded};
 
 // The argument of an element: its index, the place behind it, and the running count.
@@ -74,7 +74,7 @@ fn is_index(fmt: &[u8], at: usize) -> bool
 
 // An argument, if there are so many kinds.
 fn named(argument: usize, next: usize, count: usize, kinds: usize) -> Index
-    ensures { λ r. ⌜ r ≡ within kinds argument next count ⌝ }
+    ensures { λ r. ⌜ r ≡ amongKinds kinds argument next count ⌝ }
 {
     if kinds < argument {
         return Index::Refused {

@@ -15,7 +15,7 @@ use Rattle.parsing.specs.Listed.{placed, ended}
 use Rattle.parsing.specs.declared.Ended.{Ended}
 use Rattle.parsing.specs.declared.Ended.the-variants.{Finished, Stopped}
 use Rattle.rows.specs.Row.{kindsOf, isRow}
-use Rattle.printing.specs.Printing.{printedText, Stop, firstStop, unlessStopped, measuredEnd, measured, within, printed}
+use Rattle.printing.specs.Printing.{printedText, Stop, firstStop, unlessStopped, measuredEnd, measured, ifRoom, printed}
 use Rattle.printing.specs.Passes.{Room}
 use Rattle.printing.specs.declared.Outcome.{Outcome}
 use Rattle.printing.specs.declared.Outcome.the-variants.{Accepted, Refused}
@@ -64,7 +64,7 @@ Fits s row room slots (Accepted n k) = Fitted s row room slots n k
 Fits s row room slots (Refused number place) = Unit {0}
 
 module _ (s row : List ℕ) (room slots : ℕ) where
-  fits : (x : Outcome) → measured s row ≡ x → Fits s row room slots (within room slots x)
+  fits : (x : Outcome) → measured s row ≡ x → Fits s row room slots (ifRoom room slots x)
   fits (Accepted n k) e = by-test (Fits s row room slots) (leb n room && leb n largestEnd && leb k slots) _ _ enough (λ _. tt)
     where
       enough : (leb n room && leb n largestEnd && leb k slots) ≡ true → Fitted s row room slots n k

@@ -69,12 +69,12 @@ measured s row =
     (λ _. Refused 2 0))
 
 -- "text longer than output or than 4,294,967,295, or more pieces than ends": 17, last of all.
-abbrev pub within : ℕ → ℕ → Outcome → Outcome
-within room slots (Accepted n k) = choose (leb n room && leb n largestEnd && leb k slots) (λ _. Accepted n k) (λ _. Refused 17 0)
-within room slots (Refused number place) = Refused number place
+abbrev pub ifRoom : ℕ → ℕ → Outcome → Outcome
+ifRoom room slots (Accepted n k) = choose (leb n room && leb n largestEnd && leb k slots) (λ _. Accepted n k) (λ _. Refused 17 0)
+ifRoom room slots (Refused number place) = Refused number place
 
 unfoldable pub printed : List ℕ → List ℕ → ℕ → ℕ → Outcome
-printed s row room slots = within room slots (measured s row)
+printed s row room slots = ifRoom room slots (measured s row)
 
 -- What a call leaves in a lent slice d: t from its start, "past the last piece" its content, and all of its content where the call was stopped.
 abbrev pub written : Outcome → List ℕ → List ℕ → List ℕ

@@ -16,7 +16,7 @@ ghost use Rattle.parsing.specs.Check.{argumentOf, isKnown, allKnown, checked};
 ghost use Rattle.parsing.specs.declared.Ended.the-variants.{Finished};
 ghost use Rattle.elements.specs.Sizes.{SizeBelow};
 ghost use Rattle.pieces.specs.Ready.{Ready};
-ghost use Rattle.printing.specs.Printing.{texts, printedText, endsFrom, measured, within, printed, written};
+ghost use Rattle.printing.specs.Printing.{texts, printedText, endsFrom, measured, ifRoom, printed, written};
 ghost use Rattle.printing.specs.Passes.{TallyBelow, Walkable, Filled, Added, Walk, StopsAt, behind, withEnd, added, outcomeOf, checkedBy};
 ghost use Rattle.printing.specs.Demand.{Demanded};
 
@@ -211,15 +211,15 @@ fn checked_of(w: Walked) -> Checked
     let end = w.end;
     let pieces = w.pieces;
     let largest = w.largest;
-    match end {
-        Ended::Finished => Checked::Accepted {
+    let Ended::Stopped { number, place } = end else {
+        return Checked::Accepted {
             pieces: pieces,
             largest: largest,
-        },
-        Ended::Stopped { number, place } => Checked::Refused {
-            number: number,
-            place: place,
-        },
+        };
+    };
+    Checked::Refused {
+        number: number,
+        place: place,
     }
 }
 
@@ -286,12 +286,12 @@ fn outcome_of(w: Walked) -> Outcome
     let end = w.end;
     let tally = w.tally;
     let pieces = w.pieces;
-    match end {
-        Ended::Stopped { number, place } => Outcome::Refused {
-            number: number,
-            place: place,
-        },
-        Ended::Finished => tallied_outcome(tally, pieces),
+    let Ended::Stopped { number, place } = end else {
+        return tallied_outcome(tally, pieces);
+    };
+    Outcome::Refused {
+        number: number,
+        place: place,
     }
 }
 
@@ -332,7 +332,7 @@ pub fn measure<'a>(fmt: &'a [u8], row: &'a [u8]) -> Outcome
 
 // 17 for a text without room, or with more pieces than ends.
 pub fn fit(found: Outcome, room: u64, slots: u64) -> Outcome
-    ensures { λ r. ⌜ r ≡ within room slots found ⌝ }
+    ensures { λ r. ⌜ r ≡ ifRoom room slots found ⌝ }
 {
     let Outcome::Accepted { length, pieces } = found else {
         return found;

@@ -1,10 +1,10 @@
-pub mod Kept
-pub mod Digits
+mod Kept
+mod Digits
 pub mod Integers
 pub mod Floats
 pub mod Multiples
-pub mod Exact
-pub mod Forms
+mod Exact
+mod Forms
 pub mod Nearest
 pub mod Denotes
 pub mod Pieces

@@ -12,7 +12,7 @@ use Rattle.writing.proofs.Choose.{by-test, both}
 use Rattle.conversions.specs.Kinds.{kindOf}
 use Rattle.conversions.specs.declared.Kind.the-variants as K
 use Rattle.conversions.specs.declared.KindByte.the-variants.{Known}
-use Rattle.rows.specs.Row.{countOf, textOf, kindByteOf, valueOf, isNull, namedText, entryOf, entryAt}
+use Rattle.rows.specs.Row.{countOf, textArea, kindByteOf, valueOf, isNull, namedText, entryOf, entryAt}
 use Rattle.rows.specs.Arguments.{Argument, isText, handedOut}
 use Rattle.rows.proofs.Rows.{row-shape, text-length, entry}
 
@@ -27,11 +27,11 @@ module _ (row : List ℕ) (a : ℕ) (h : Argument row a) where
       let w = row-shape row (h .kept) in
       (omega (arith, w .0), w .1, h .first, h .last)
 
-  part-inside : isText (kindByteOf row a) ≡ true → valueOf row a % 2 ^ 32 + valueOf row a / 2 ^ 32 ≤ length (textOf row)
+  part-inside : isText (kindByteOf row a) ≡ true → valueOf row a % 2 ^ 32 + valueOf row a / 2 ^ 32 ≤ length (textArea row)
   unfolding entryAt kindOf
   part-inside t =
       let k = kindByteOf row a in
-      text-held (isNull k) (textOf row) (valueOf row a) (simp (eqb-true (k % 128) 7 t) at (entry row (h .kept) a (h .first) (h .last)))
+      text-held (isNull k) (textArea row) (valueOf row a) (simp (eqb-true (k % 128) 7 t) at (entry row (h .kept) a (h .first) (h .last)))
 
   pub text-room : isText (kindByteOf row a) ≡ true
       → (6 + 9 * countOf row + valueOf row a % 2 ^ 32 + valueOf row a / 2 ^ 32 ≤ length row) × (length row ≤ 33350)

@@ -1,4 +1,4 @@
 pub mod Widths
 mod Entries
 pub mod Rows
-pub mod Arguments
+mod Arguments

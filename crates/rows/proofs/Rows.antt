@@ -12,7 +12,7 @@ use borrow.Author.Tests.{leb-true, eqb-true}
 use borrow.Rule.Slice.PartAt.{part-to-end}
 use Rattle.refusals.specs.Limits.{mostValues, mostText}
 use Rattle.numerals.specs.LittleEndian.{littleEndian, wordAt}
-use Rattle.rows.specs.Row.{countOf, textSize, kindsOf, textOf, kindByteOf, valueOf, entryAt, entriesFrom, isRow}
+use Rattle.rows.specs.Row.{countOf, textSize, kindsOf, textArea, kindByteOf, valueOf, entryAt, entriesFrom, isRow}
 use Rattle.rows.specs.Arguments.{rowOf}
 use Rattle.rows.specs.declared.RowRead.{RowRead}
 use Rattle.rows.specs.declared.RowRead.the-variants.{Row, Broken}
@@ -89,7 +89,7 @@ module _ (row : List ℕ) (kept : isRow row ≡ true) where
       let m : n + 1 - 1 ≡ n = omega arith in
       sym (kind-byte row (n + 1) (omega arith) (omega (arith, kinds-length))) ∙ ap (λ (i : ℕ). getD (kindsOf row) i 0) m
 
-  pub text-length : length (textOf row) ≡ textSize row
+  pub text-length : length (textArea row) ≡ textSize row
   text-length =
       let w = row-shape .0 in
       simp length-drop (omega arith)

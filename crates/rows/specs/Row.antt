@@ -25,8 +25,8 @@ textSize row = wordAt 4 row 2
 abbrev pub kindsOf : List ℕ → List ℕ
 kindsOf row = take (countOf row) (drop 6 row)
 
-abbrev pub textOf : List ℕ → List ℕ
-textOf row = drop (6 + 9 * countOf row) row
+abbrev pub textArea : List ℕ → List ℕ
+textArea row = drop (6 + 9 * countOf row) row
 
 abbrev pub kindByteOf : List ℕ → ℕ → ℕ
 kindByteOf row a = getD row (5 + a) 0
@@ -44,7 +44,7 @@ partOf text v = take (v / 2 ^ 32) (drop (v % 2 ^ 32) text)
 
 -- The text that the argument a names, where it is of kind 7.
 unfoldable pub namedText : List ℕ → ℕ → List ℕ
-namedText row a = partOf (textOf row) (valueOf row a)
+namedText row a = partOf (textArea row) (valueOf row a)
 
 -- The values of each kind: integers "sign-extended, within the kind"; every pattern of a float; "Boolean (0 or 1)"; a text whose offset and length
 -- have a "sum at most t, well-formed UTF-8".
@@ -68,7 +68,7 @@ entryOf (Known k) true text v = canBeNull k && eqb v 0
 entryOf (Known k) false text v = holds k text v
 
 unfoldable pub entryAt : List ℕ → ℕ → Bool
-entryAt row a = entryOf (kindOf (kindByteOf row a % 128)) (isNull (kindByteOf row a)) (textOf row) (valueOf row a)
+entryAt row a = entryOf (kindOf (kindByteOf row a % 128)) (isNull (kindByteOf row a)) (textArea row) (valueOf row a)
 
 -- The entries from the argument a on, k of them.
 unfoldable pub entriesFrom : ℕ → List ℕ → ℕ → Bool

@@ -6,7 +6,7 @@ use lib.Seq.{drop-cons}
 use mathlib.Core.Bool.{Bool, true, false, _&&_}
 use mathlib.Core.List.{List, [], _∷_, _++_}
 use mathlib.Core.Path.{_≡_, refl, sym, ap, _∙_}
-use Rattle.utf8.specs.Utf8.{within, leadOf, afterLead, wellFormedFrom, wellFormed}
+use Rattle.utf8.specs.Utf8.{between, leadOf, afterLead, wellFormedFrom, wellFormed}
 use Rattle.utf8.specs.Largest.{largestOf}
 use Rattle.utf8.specs.declared.Lead.{Lead}
 use Rattle.utf8.specs.declared.Lead.the-variants.{Follow, NoLead}
@@ -63,7 +63,7 @@ unfolding wellFormedFrom
 from-append zero low high [] ys e = any-range low high ys
 from-append (suc need) low high [] ys e = cc
 from-append zero low high (b ∷ xs) ys e = after-lead xs ys (λ n l h. from-append n l h xs ys) (leadOf b) e
-from-append (suc need) low high (b ∷ xs) ys e = after-test xs ys (λ n l h. from-append n l h xs ys) (within low high b) need 0x80 0xbf e
+from-append (suc need) low high (b ∷ xs) ys e = after-test xs ys (λ n l h. from-append n l h xs ys) (between low high b) need 0x80 0xbf e
 
 pub append : (xs ys : List ℕ) → wellFormed xs ≡ true → wellFormed (xs ++ ys) ≡ wellFormed ys
 unfolding wellFormed

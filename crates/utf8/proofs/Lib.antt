@@ -1,2 +1,2 @@
-pub mod Utf8
-pub mod Laws
+mod Utf8
+mod Laws

@@ -10,17 +10,17 @@ use borrow.Author.Tests.{le-leb, lt-leb, ne-eqb}
 use lib.Dec.{eqb}
 use lib.ListN.{length, drop, getD, drop-of-length-le}
 use lib.Seq.{drop-cons}
-use Rattle.utf8.specs.Utf8.{within, row, leadOf, afterLead, wellFormedFrom, wellFormed}
+use Rattle.utf8.specs.Utf8.{between, row, leadOf, afterLead, wellFormedFrom, wellFormed}
 use Rattle.utf8.specs.declared.Lead.the-variants.{Follow, NoLead}
 
 -- A range of bytes below a byte, one above it, and one around it.
-pub above : (low high b : ℕ) → low ≤ b → high < b → within low high b ≡ false
+pub above : (low high b : ℕ) → low ≤ b → high < b → between low high b ≡ false
 above low high b m n = simp (le-leb low b m, lt-leb b high n)
 
-pub below : (low high b : ℕ) → b < low → within low high b ≡ false
+pub below : (low high b : ℕ) → b < low → between low high b ≡ false
 below low high b n = simp (lt-leb low b n)
 
-pub inside : (low high b : ℕ) → low ≤ b → b ≤ high → within low high b ≡ true
+pub inside : (low high b : ℕ) → low ≤ b → b ≤ high → between low high b ≡ true
 inside low high b m n = simp (le-leb low b m, le-leb b high n)
 
 -- The rows of the table, but for those of a single byte, which compute.
@@ -104,7 +104,7 @@ module _ {s : List ℕ} {i need low high : ℕ} (r : ReadTo s i need low high) w
   unfolding wellFormedFrom
   at-lead h e = rw (e, one-more h) at (r .decides)
 
-  pub at-follower : i < length s → (need ≡ 0 → ⊥) → within low high (getD s i 0) && wellFormedFrom (need - 1) 0x80 0xbf (drop (i + 1) s) ≡ wellFormed s
+  pub at-follower : i < length s → (need ≡ 0 → ⊥) → between low high (getD s i 0) && wellFormedFrom (need - 1) 0x80 0xbf (drop (i + 1) s) ≡ wellFormed s
   unfolding wellFormedFrom
   at-follower h n =
       let e : need ≡ suc (need - 1) = omega arith in

@@ -7,12 +7,12 @@ use Rattle.writing.specs.Choose.{choose}
 use Rattle.utf8.specs.declared.Lead.{Lead}
 use Rattle.utf8.specs.declared.Lead.the-variants.{Follow, NoLead}
 
-abbrev pub within : ℕ → ℕ → ℕ → Bool
-within low high b = leb low b && leb b high
+abbrev pub between : ℕ → ℕ → ℕ → Bool
+between low high b = leb low b && leb b high
 
 -- A row of the table: the first bytes from `low` to `high` have this lead; any other byte is left to the rows below.
 abbrev pub row : ℕ → ℕ → Lead → ℕ → (Unit {0} → Lead) → Lead
-row low high lead b others = choose (within low high b) (λ _. lead) others
+row low high lead b others = choose (between low high b) (λ _. lead) others
 
 -- What follows a first byte: how many bytes, and the range of the next one. The bytes after that go from 80 to BF.
 unfoldable pub leadOf : ℕ → Lead
@@ -36,7 +36,7 @@ unfoldable pub wellFormedFrom : ℕ → ℕ → ℕ → List ℕ → Bool
 wellFormedFrom zero low high [] = true
 wellFormedFrom (suc need) low high [] = false
 wellFormedFrom zero low high (b ∷ bs) = afterLead (leadOf b) (λ n l h. wellFormedFrom n l h bs)
-wellFormedFrom (suc need) low high (b ∷ bs) = within low high b && wellFormedFrom need 0x80 0xbf bs
+wellFormedFrom (suc need) low high (b ∷ bs) = between low high b && wellFormedFrom need 0x80 0xbf bs
 
 unfoldable pub wellFormed : List ℕ → Bool
 wellFormed s = wellFormedFrom 0 0x80 0xbf s

@@ -70,7 +70,7 @@ fn lead_of_four(b: u8) -> Lead
     follow(3, 0x80, 0xbf)
 }
 
-pub fn larger(a: u8, b: u8) -> u8
+fn larger(a: u8, b: u8) -> u8
     ensures { λ r. ⌜ r ≡ max a b ⌝ }
 {
     if a < b {

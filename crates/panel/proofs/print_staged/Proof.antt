@@ -2,7 +2,7 @@
 use Prim.Native.Nat.{_/_}
 use mathlib.Core.Path.{_≡_, sym, ap, _∙_}
 use lib.ListN.{length}
-use Rattle.printing.specs.Printing.{texts, printedText, endsFrom, within, printed, written}
+use Rattle.printing.specs.Printing.{texts, printedText, endsFrom, ifRoom, printed, written}
 use Rattle.printing.specs.declared.Outcome.{Outcome}
 use Rattle.printing.proofs.Accepted.{fitted}
 use Rattle.panel.specs.Entries.{allBytes}
@@ -32,7 +32,7 @@ unfolding printed
 answered c =
     let staged = c .before .before .before in
     let a = staged .before .before .before .before .before .before .before .args in
-    sym (c .fit .ensures ∙ ap (within (length (a .out .now)) (length (a .ends .now) / 4)) (staged .stage .ensures .0))
+    sym (c .fit .ensures ∙ ap (ifRoom (length (a .out .now)) (length (a .ends .now) / 4)) (staged .stage .ensures .0))
 
 enum-known-answer : tie.Need-enum-known-answer
 enum-known-answer c = search needs

@@ -6,12 +6,6 @@ use borrow.Author.Needs.{needs}
 use Rattle.printing.proofs.checked_of.Statement.{statement}
 use Rattle.printing.proofs.checked_of.Tie as tie
 
-enum-told : tie.Need-enum-told
-enum-told c = search needs
-
-enum-known-end : tie.Need-enum-known-end
-enum-known-end c = search needs
-
 returns : tie.Need-returns
 returns c =
     let w = c .before .before .args .w in
@@ -23,4 +17,4 @@ returns-2 c =
     sym (ap (λ (x : Ended). checkedOf x (w .pieces) (w .largest)) (c .before .end .given .1))
 
 pub checked-of-spec : {M : Type 1} → statement M
-checked-of-spec = tie.close (tie.spec enum-told enum-known-end returns returns-2)
+checked-of-spec = tie.close (tie.spec (λ c. search needs) (λ c. search needs) returns returns-2)

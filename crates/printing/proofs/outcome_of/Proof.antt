@@ -6,25 +6,15 @@ use borrow.Author.Needs.{needs}
 use Rattle.printing.proofs.outcome_of.Statement.{statement}
 use Rattle.printing.proofs.outcome_of.Tie as tie
 
-enum-known-end : tie.Need-enum-known-end
-enum-known-end c = search needs
-
-enum-told : tie.Need-enum-told
-enum-told c = search needs
-
-tallied-outcome-requires : tie.Need-tallied-outcome-requires
-tallied-outcome-requires c κs = search needs
-
 returns : tie.Need-returns
 returns c =
     let w = c .before .before .before .args .w in
-    sym (ap (λ (x : Ended). outcomeOf x (w .tally) (w .pieces)) (c .before .end .given .1))
+    c .tallied-outcome .ensures ∙ sym (ap (λ (x : Ended). outcomeOf x (w .tally) (w .pieces)) (c .before .enum-told .given .1))
 
 returns-2 : tie.Need-returns-2
 returns-2 c =
     let w = c .before .before .before .args .w in
-    c .tallied-outcome .ensures ∙ sym (ap (λ (x : Ended). outcomeOf x (w .tally) (w .pieces)) (c .before .enum-told .given .1))
+    sym (ap (λ (x : Ended). outcomeOf x (w .tally) (w .pieces)) (c .before .end .given .1))
 
 pub outcome-of-spec : {M : Type 1} → statement M
-outcome-of-spec =
-    tie.close (tie.spec enum-known-end enum-told tallied-outcome-requires returns returns-2)
+outcome-of-spec = tie.close (tie.spec (λ c. search needs) (λ c. search needs) (λ c κs. search needs) returns returns-2)

@@ -2,7 +2,7 @@
 use mathlib.Core.Path.{_≡_, sym, ap, subst, _∙_}
 use lib.ListN.{length}
 use native.Mathlib.Omega.{arith}
-use Rattle.printing.specs.Printing.{texts, printedText, endsFrom, within, printed, written}
+use Rattle.printing.specs.Printing.{texts, printedText, endsFrom, ifRoom, printed, written}
 use Rattle.printing.specs.Passes.{Filled}
 use Rattle.printing.specs.Demand.{Demanded}
 use Rattle.printing.specs.declared.Outcome.{Outcome}
@@ -33,7 +33,7 @@ answered : (c : tie.After-fit) → let a = entry c .args in
 unfolding printed
 answered c =
     let a = entry c .args in
-    c .fit .ensures ∙ ap (within (length (a .out .now)) (length (a .ends .now))) (c .before .measure .ensures)
+    c .fit .ensures ∙ ap (ifRoom (length (a .out .now)) (length (a .ends .now))) (c .before .measure .ensures)
 
 fits : (c : tie.After-enum-told) → let a = entry (c .before .before) .args in
     Fitted (a .fmt .now) (a .row .now) (length (a .out .now)) (length (a .ends .now)) (c .enum-told .given .0 .0) (c .enum-told .given .0 .1 .0)

@@ -24,7 +24,7 @@ returns-2 c =
 judged : (c : tie.After-validate) →
     let letter = c .before .before in
     let parts = letter .before .before .before .before in
-    let a = parts .before .before .before .args in
+    let a = parts .before .before .before .before .args in
     let read = letter .letter .given .0 in
     specifierAt (a .fmt .now) (a .at) (a .argument) (a .kind)
     ≡ fitted (a .argument) (a .kind) (parts .taken .given .0 .0) (read .0) (read .1 .0) (read .1 .1 .0)
