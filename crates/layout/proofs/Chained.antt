@@ -8,16 +8,10 @@ use borrow.Rule.Slice.PartMut.{putMid, midOf}
 use Rattle.writing.specs.Laid.{laid}
 use Rattle.writing.specs.Writers.{Wrote}
 use Rattle.writing.proofs.Laid.{laid-next}
-use Rattle.layout.specs.Short.{StandsFor}
-use Rattle.layout.specs.declared.Short.{Short}
 
 -- what a fill wrote
 pub wrote-fill : (d D : List ℕ) (n b r : ℕ) → (r ≡ n) × (D ≡ laid d (replicate n b)) → Wrote d (replicate n b) r D
 wrote-fill d D n b r p = (p .0 ∙ sym (length-replicate n b), p .1)
-
--- and what a short text's writer wrote
-pub wrote-short : (d D t : List ℕ) (s : Short) (r : ℕ) → StandsFor s t → (r ≡ s .0) × ((u : List ℕ) → StandsFor s u → D ≡ laid d u) → Wrote d t r D
-wrote-short d D t s r h p = (p .0 ∙ h .size, p .1 t h)
 
 -- D is what the slice holds after the first text, of length m, and Y what the writer of the second left of the part from m on.
 pub wrote-two : (d x y D Y : List ℕ) (m n : ℕ) → Wrote d x m D → Wrote (midOf m (length D - m) D) y n Y

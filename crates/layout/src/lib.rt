@@ -5,7 +5,6 @@ ghost use mathlib.Core.Path.{_≡_};
 ghost use mathlib.Core.List.{List};
 ghost use Prim.Native.Nat.{ℕ, _+_, _^_, _≤_, _<_};
 ghost use lib.ListN.{length};
-ghost use Rattle.writing.specs.Laid.{laid};
 ghost use Rattle.writing.specs.Writers.{Wrote};
 ghost use Rattle.layout.specs.Frame.{opening, closing, prefixText, headText, tailText, spare, frameOf};
 ghost use Rattle.layout.specs.Short.{StandsFor};
@@ -53,7 +52,7 @@ pub struct Framed {
 }
 
 // A text of at most two bytes: how many, the first and the second, 0 where there is none.
-struct Short(usize, u8, u8);
+struct Short(u8, u8, u8);
 
 // What a mark puts in front of the digits.
 fn opening_text(mark: Mark) -> Short
@@ -96,7 +95,7 @@ fn prefix_text(prefix: Prefix) -> Short
 // Writes a short text. Answers its length.
 fn write_short(out: &mut [u8], s: Short) -> usize
     requires { ⌜ s .0 ≤ length (now out) ⌝ }
-    ensures { λ r. ⌜ (r ≡ s .0) × ((t : List ℕ) → StandsFor s t → now (out .exit) ≡ laid (now (out .entry)) t) ⌝ }
+    ensures { λ r. ⌜ (r ≡ s .0) × ((t : List ℕ) → StandsFor s t → Wrote (now (out .entry)) t r (now (out .exit))) ⌝ }
 {
     if s.0 == 0 {
         return 0;
@@ -106,7 +105,7 @@ fn write_short(out: &mut [u8], s: Short) -> usize
         return 1;
     }
     out[1] = s.2;
-    s.0
+    s.0 as usize
 }
 
 // How many bytes mark and prefix have, the closing mark too.
@@ -190,11 +189,9 @@ fn write_head(out: &mut [u8], f: Frame) -> usize
     let prefix = f.prefix;
     let before = f.before as usize;
     let zeros = f.zeros as usize;
-    let opening = opening_text(mark);
-    let prefixed = prefix_text(prefix);
     let a = writing::write_fill(out, before, b' ');
-    let b = a + write_short(&mut out[a..], opening);
-    let c = b + write_short(&mut out[b..], prefixed);
+    let b = a + write_short(&mut out[a..], opening_text(mark));
+    let c = b + write_short(&mut out[b..], prefix_text(prefix));
     c + writing::write_fill(&mut out[c..], zeros, b'0')
 }
 
@@ -205,9 +202,8 @@ fn write_tail(out: &mut [u8], f: Frame) -> usize
 {
     let mark = f.mark;
     let after = f.after as usize;
-    let closing = closing_text(mark);
     let a = writing::write_fill(out, after, b' ');
-    a + write_short(&mut out[a..], closing)
+    a + write_short(&mut out[a..], closing_text(mark))
 }
 
 // Writes a frame around the place of n bytes. Answers that place.

@@ -1,6 +1,6 @@
 -- `layout::write_short` meets its contract. Assumes nothing.
 use Prim.Native.Nat.{ℕ}
-use mathlib.Core.Path.{_≡_, sym}
+use mathlib.Core.Path.{_≡_, refl, sym}
 use mathlib.Core.List.{List, [], _∷_}
 use native.Mathlib.Omega.{arith}
 use lib.ListN.{take, length-set}
@@ -19,18 +19,18 @@ text-is s (x ∷ y ∷ []) h = simp (h .size, h .first, h .second)
 text-is s (x ∷ y ∷ z ∷ t) h = absurd (omega (arith, h .size, h .few))
 
 returns : tie.Need-returns
-returns c = (search needs, λ t h. simp (text-is _ t h, c .if1 .taken) (sym (laid-none _)))
+returns c = (search needs, λ t h. simp (text-is _ t h, c .if1 .taken) (refl, sym (laid-none _)))
 
 returns-2 : tie.Need-returns-2
-returns-2 c = (search needs, λ t h. simp (text-is _ t h, c .if2 .taken) (laid-first _ _ (omega arith)))
+returns-2 c = (search needs, λ t h. simp (text-is _ t h, c .if2 .taken) (refl, laid-first _ _ (omega arith)))
 
 returns-3 : tie.Need-returns-3
 returns-3 c =
-    let start = c .before .before .before .before in (
+    let start = c .before .before .before .before .before in (
       search needs,
       λ t h.
           let two : start .args .s .0 ≡ 2 = omega (arith, h .few) in
-          simp (text-is _ t h, two) (laid-stores _ _ (omega arith)),
+          simp (text-is _ t h, two) (refl, laid-stores _ _ (omega arith)),
     )
 
 pub write-short-spec : {M : Type 1} → statement M
@@ -42,5 +42,6 @@ write-short-spec =
     (λ c. search needs)
     returns-2
     (λ c. simp length-set (omega arith))
+    (λ c. search needs)
     (λ c. search needs)
     returns-3)

@@ -1,49 +1,45 @@
 -- `layout::write_tail` meets its contract. Assumes nothing.
-use Prim.Native.Nat.{_+_, _≤_}
-use lib.ListN.{length, length-take, length-drop}
+use lib.ListN.{length-take, length-drop}
 use native.Mathlib.Omega.{arith}
 use Rattle.layout.specs.Frame.{closing, spaces, tailText}
 use Rattle.layout.proofs.Lengths.{tail-length}
-use Rattle.layout.proofs.Chained.{wrote-fill, wrote-short, wrote-two}
+use Rattle.layout.proofs.Chained.{wrote-fill, wrote-two}
 use borrow.Author.Needs.{needs}
 use Rattle.layout.proofs.write_tail.Statement.{statement}
 use Rattle.layout.proofs.write_tail.Tie as tie
 
--- the place where the closing mark is known, from those behind the spaces and behind the mark
-abbrev known₁ : tie.After-slice-known2 → tie.After-closing-text
-known₁ c = c .before .before .before .before
+-- the start, from the places before the spaces, behind them, and behind the closing mark
+abbrev start₀ : tie.After-write-fill-arg → tie.Start
+start₀ c = c .before .before .before
 
-abbrev known₂ : tie.After-slice-known3 → tie.After-closing-text
-known₂ c = known₁ (c .before .before .before .before)
+abbrev start₁ : tie.After-slice-known2 → tie.Start
+start₁ c = start₀ (c .before .before .before)
 
-room : (c : tie.After-closing-text)
-    → (let a = c .before .before .before .args in a .f .after + c .closing-text .result .0 ≤ length (a .out .now))
-room c =
-    let start = c .before .before .before in
-    omega (arith, tail-length (start .args .f), c .closing-text .ensures .size, start .pre)
+abbrev start₂ : tie.After-slice-known3 → tie.Start
+start₂ c = start₁ (c .before .before .before .before .before)
 
 returns : tie.Need-returns
 unfolding tailText spaces
 returns c =
     let wrote₂ = c .before .before in
-    let wrote₁ = wrote₂ .before .before .before .before in
-    let known = known₂ c in
-    let a = known .before .before .before .args in
+    let known = wrote₂ .before in
+    let wrote₁ = known .before .before .before .before in
+    let a = start₂ c .args in
     wrote-two (a .out .now) (spaces (a .f .after)) (closing (a .f .mark)) _ _ _ _
     (wrote-fill _ _ _ _ _ (wrote₁ .write-fill .ensures))
-    (wrote-short _ _ _ _ _ (known .closing-text .ensures) (wrote₂ .write-short .ensures))
+    (wrote₂ .write-short .ensures .1 _ (known .closing-text .ensures))
 
 pub write-tail-spec : {M : Type 1} → statement M
 write-tail-spec =
     tie.close
     (tie.spec
     (λ c. search needs)
-    (λ c κs. search needs)
-    (λ c κs. omega (arith, room (c .before)))
-    (λ c. omega (arith, room (known₁ c)))
-    (λ c. omega (arith, room (known₁ c)))
+    (λ c κs. omega (arith, tail-length (start₀ c .args .f)))
+    (λ c. omega (arith, tail-length (start₁ c .args .f)))
+    (λ c. omega (arith, tail-length (start₁ c .args .f)))
     (λ c. search needs)
-    (λ c κs. simp (length-take, length-drop) (omega (arith, room (known₁ (c .before)))))
-    (λ c. omega (arith, room (known₂ c)))
+    (λ c κs. search needs)
+    (λ c κs. simp (length-take, length-drop) (omega (arith, tail-length (start₁ (c .before .before) .args .f))))
+    (λ c. omega (arith, tail-length (start₂ c .args .f)))
     (λ c. search needs)
     returns)
