@@ -5,9 +5,10 @@ use Prim.Native.Nat.{ℕ, _+_, _-_, _*_, _^_, _≤_, _<_, max}
 use native.Mathlib.Nat.{mul-one, zero-mul, zero-add, mul-pos}
 use native.Mathlib.Decide.{decLt}
 use native.Mathlib.Omega.{arith}
-use lib.Dec.{eqb, lit≤}
+use lib.Dec.{ltb, eqb, lit≤}
 use lib.Pow.{pow-pos}
-use borrow.Author.Tests.{lt-ltb, le-ltb, le-leb, lt-leb, eq-eqb, ne-eqb}
+use borrow.Author.Tests.{lt-ltb, le-ltb, le-leb, lt-leb, eq-eqb, ne-eqb, ltb-true, ltb-false}
+use Rattle.writing.proofs.Choose.{by-test}
 use Rattle.params.specs.declared.NumericParam.{NumericParam}
 use Rattle.params.specs.declared.NumericParam.the-variants.{Literal, FromArgument}
 use Rattle.binary64.specs.Fields.{negative, exponentField, fractionField, significand, units, scaledBits}
@@ -19,7 +20,7 @@ use Rattle.reading.specs.Reading.{Scaled}
 use Rattle.reading.specs.Nearness.{claim, Exactly, Nearest, Denotes}
 use Rattle.reading.proofs.Floats.{scaledOf}
 use Rattle.reading.proofs.Exact.{whole-is-value, from-significand}
-use Rattle.reading.proofs.Forms.{wholeOf, placesOf, whole-shortest, whole-long}
+use Rattle.reading.proofs.Forms.{wholeOf, placesOf, whole-shortest, whole-long, by-form}
 use Rattle.reading.proofs.Nearest.{nearest-of}
 
 -- Parts that write the significand S of a value of S * 2 ^ q units are exact.
@@ -102,10 +103,9 @@ module _ (b : ℕ) (z : exponentField b ≡ 0) where
   subnormal-denotes : (p : NumericParam) → 1 ≤ fractionField b → Denotes b p (scaledOf (negative b) (subnormalOf p (fractionField b)))
   subnormal-denotes FromArgument n = unscaled
   subnormal-denotes (Literal p) n =
-      elim (decLt p 13) [
-        | yes k ↦ near-claim b p _ (λ e. omega (arith, units-zero b z)) k (simp (lt-ltb p 13 k) (scaled-denotes p n k))
-        | no m ↦ exact-claim b p _ (omega arith) (simp (le-ltb p 13 (omega arith)) unscaled)
-      ]
+      by-test (λ (h : HexFloat). Denotes b (Literal p) (scaledOf (negative b) h)) (ltb p 13) _ _
+      (λ k. near-claim b p _ (λ e. omega (arith, units-zero b z)) (ltb-true p 13 k) (scaled-denotes p n (ltb-true p 13 k)))
+      (λ k. exact-claim b p _ (ltb-false p 13 k) unscaled)
 
   zero-denotes : (p : NumericParam) → fractionField b ≡ 0 → Denotes b p (scaledOf (negative b) zeroForm)
   zero-denotes FromArgument e = zero-exact e
@@ -113,13 +113,6 @@ module _ (b : ℕ) (z : exponentField b ≡ 0) where
 
 -- Demand 3 for %a, of the parts of the text. (Of an infinity or a NaN it says nothing that counts: these have texts of their own.)
 pub denotes : (b : ℕ) (p : NumericParam) → Denotes b p (scaledOf (negative b) (hexFloatOf b p))
-unfolding hexFloatOf
 denotes b p =
-    elim (decLt (exponentField b) 1) [
-      | yes k ↦ simp (eq-eqb (exponentField b) 0 (omega arith))
-          (elim (decLt (fractionField b) 1) [
-            | yes z ↦ simp (eq-eqb (fractionField b) 0 (omega arith)) (zero-denotes b (omega arith) p (omega arith))
-            | no n ↦ simp (ne-eqb (fractionField b) 0 (λ e. omega arith)) (subnormal-denotes b (omega arith) p (omega arith))
-          ])
-      | no n ↦ simp (ne-eqb (exponentField b) 0 (λ e. omega arith)) (normal-denotes b p (omega arith))
-    ]
+    by-form (λ (h : HexFloat). Denotes b p (scaledOf (negative b) h)) b p
+    (λ z. zero-denotes b z p) (λ z. subnormal-denotes b z p) (normal-denotes b p)

@@ -2,7 +2,7 @@
 use mathlib.Core.Path.{_≡_, refl, sym, ap, _∙_}
 use mathlib.Core.Bool.{Bool, true, false}
 use mathlib.Core.List.{List, [], _∷_, _++_, append-assoc, append-nil}
-use mathlib.Core.Option.{none, some}
+use mathlib.Core.Option.{some}
 use Prim.Native.Nat.{ℕ, suc, _+_, _-_, _*_, _^_, _≤_, _<_}
 use Prim.Native.Char.{code}
 use native.Mathlib.Nat.{mod-eq-of-lt, zero-mul, zero-add}
@@ -28,6 +28,7 @@ use Rattle.reading.specs.Kept.{kept}
 use Rattle.reading.specs.Reading.{withMinus, afterPrefix, cutAt, Scaled, readMagnitude, readFloat}
 use Rattle.reading.proofs.Kept.{kept-append, kept-letters, zero-letters}
 use Rattle.reading.proofs.Digits.{letter-is-not, digits-read, whole-read}
+use Rattle.reading.proofs.Forms.{wholeOf, placesOf}
 use Rattle.reading.proofs.Integers.{spaced, kept-spaced, digits-of, unmarked, after-minus, kept-numeral}
 
 -- The number that the parts of a text make.
@@ -35,8 +36,8 @@ abbrev pub scaledOf : Bool → HexFloat → Scaled
 scaledOf s h =
     record {
       negative = s;
-      m = (leadingDigit (h .leading) * 16 ^ h .digits + h .fraction) * 16 ^ h .zeros;
-      f = h .digits + h .zeros;
+      m = wholeOf h;
+      f = placesOf h;
       e = subℕ (h .exponent) (h .bias);
     }
 
@@ -146,8 +147,7 @@ lead-below true = lit< tt
 
 -- The whole number of all digits: leading zeros, the digit before the point, the digits and zeros behind it.
 number-is : (z : ℕ) (h : HexFloat) → h .fraction < 16 ^ h .digits
-    → numberFrom 16 (numberOf 16 (replicate z 0 ++ (leadingDigit (h .leading) ∷ []))) (fractionDigits h)
-    ≡ (leadingDigit (h .leading) * 16 ^ h .digits + h .fraction) * 16 ^ h .zeros
+    → numberFrom 16 (numberOf 16 (replicate z 0 ++ (leadingDigit (h .leading) ∷ []))) (fractionDigits h) ≡ wholeOf h
 unfolding numberOf numberFrom
 number-is z h k =
     let d = leadingDigit (h .leading) in
@@ -170,7 +170,7 @@ magnitude-back s z h one k =
     let point : List ℕ = code "." ∷ (lettersOf false F ++ (code "p" ∷ X)) in
     let w : Below 16 W = below-append 16 (replicate z 0) d (below-zeros 16 z (lit< tt)) (lead-below (h .leading), tt) in
     let nw : 0 < length W = rw length-append (omega arith) in
-    let lf : length F ≡ h .digits + h .zeros =
+    let lf : length F ≡ placesOf h =
     length-append (digitsIn 16 (h .digits) (h .fraction)) (replicate (h .zeros) 0) ∙ rw (length-digitsIn, length-replicate) in
     ap (λ (l : List ℕ). readMagnitude s (code "0" ∷ code "x" ∷ l))
     (sym (append-assoc (lettersOf false (replicate z 0)) (lettersOf false d) point)

@@ -1,17 +1,19 @@
 -- The parts of a value's hexadecimal text: at least one digit, no digit lost, and the whole number that they make. Assumes nothing.
 use mathlib.Core.Path.{_≡_, sym, ap, _∙_}
+use mathlib.Core.Bool.{false}
 use Prim.Native.Nat.{ℕ, zero, suc, _+_, _-_, _*_, _/_, _%_, _^_, _≤_, _<_, max}
 use native.Mathlib.Nat.{mul-assoc, mul-comm, mul-one, one-mul, add-zero, add-mul, pow-suc, div-div-eq-div-mul, div-one, div-lt-iff-lt-mul, mul-pos}
 use native.Mathlib.Decide.{decLt}
 use native.Mathlib.Omega.{arith}
-use lib.Dec.{lit<, lit≤}
+use lib.Dec.{ltb, eqb, lit<, lit≤}
 use lib.Pow.{pow-add}
-use borrow.Author.Tests.{lt-ltb, le-ltb, eq-eqb, ne-eqb}
+use borrow.Author.Tests.{eq-eqb, ne-eqb, eqb-true, eqb-false, ltb-true}
+use Rattle.writing.proofs.Choose.{by-test}
 use Rattle.params.specs.declared.NumericParam.{NumericParam}
 use Rattle.params.specs.declared.NumericParam.the-variants.{Literal, FromArgument}
 use Rattle.binary64.specs.Fields.{exponentField, fractionField, scaledBits}
 use Rattle.binary64.specs.Rounding.{nearestTo, keptDigits}
-use Rattle.binary64.specs.HexFloat.{leadingDigit, normalForm, subnormalForm, shortest, carried, rounded, normalOf, subnormalOf, hexFloatOf}
+use Rattle.binary64.specs.HexFloat.{leadingDigit, zeroForm, normalForm, subnormalForm, shortest, carried, rounded, normalOf, subnormalOf, hexFloatOf}
 use Rattle.binary64.specs.declared.HexFloat.{HexFloat}
 use Rattle.binary64.proofs.Kept.{kept-bounds}
 use Rattle.binary64.proofs.Value.{field-bounds}
@@ -71,35 +73,40 @@ module _ (f e bias : ℕ) (f-below : f < 2 ^ 52) where
 
   well-carried : (p r : ℕ) → 1 ≤ p → WellFormed (carried p r e bias)
   well-carried p r h =
-      elim (decLt r (16 ^ p)) [
-        | yes k ↦ simp (lt-ltb r (16 ^ p) k) (record { one-digit = h; below = k })
-        | no n ↦ simp (le-ltb r (16 ^ p) (omega arith)) (record { one-digit = h; below = sixteen-pos p })
-      ]
+      by-test WellFormed (ltb r (16 ^ p)) _ _
+      (λ k. record { one-digit = h; below = ltb-true _ _ k }) (λ _. record { one-digit = h; below = sixteen-pos p })
 
   well-rounded : (p : ℕ) → 1 ≤ p → WellFormed (rounded p f e bias)
   unfolding rounded
   well-rounded p h =
-      elim (decLt p 13) [
-        | yes k ↦ simp (lt-ltb p 13 k) (well-carried p (nearestTo f (16 ^ (13 - p))) h)
-        | no n ↦ simp (le-ltb p 13 (omega arith)) (record { one-digit = lit≤ tt; below = f-below })
-      ]
+      by-test WellFormed (ltb p 13) _ _
+      (λ _. well-carried p (nearestTo f (16 ^ (13 - p))) h) (λ _. record { one-digit = lit≤ tt; below = f-below })
 
   pub well-normal : (p : NumericParam) → WellFormed (normalOf p f e bias)
   well-normal FromArgument = well-shortest
   well-normal (Literal p) = well-rounded (max p 1) (omega arith)
 
+-- What holds of the three forms holds of every value's.
+pub by-form : (P : HexFloat → Type 0) (b : ℕ) (p : NumericParam)
+    → (exponentField b ≡ 0 → fractionField b ≡ 0 → P zeroForm)
+    → (exponentField b ≡ 0 → 1 ≤ fractionField b → P (subnormalOf p (fractionField b)))
+    → (1 ≤ exponentField b → P (normalOf p (fractionField b) (exponentField b) 1023))
+    → P (hexFloatOf b p)
+unfolding hexFloatOf
+by-form P b p none subnormal normal =
+    by-test P (eqb (exponentField b) 0) _ _
+    (λ e. by-test P (eqb (fractionField b) 0) _ _
+    (λ f. none (eqb-true _ 0 e) (eqb-true _ 0 f)) (λ f. subnormal (eqb-true _ 0 e) (positive (fractionField b) f)))
+    (λ e. normal (positive (exponentField b) e))
+  where
+    positive : (x : ℕ) → eqb x 0 ≡ false → 1 ≤ x
+    positive x t = omega (arith, eqb-false x 0 t)
+
 -- Every text has at least one digit behind the point, and its fraction fits its digits.
 pub well-formed : (b : ℕ) (p : NumericParam) → WellFormed (hexFloatOf b p)
-unfolding hexFloatOf
 well-formed b p =
-    elim (decLt (exponentField b) 1) [
-      | yes k ↦ simp (eq-eqb (exponentField b) 0 (omega arith))
-          (elim (decLt (fractionField b) 1) [
-            | yes z ↦ simp (eq-eqb (fractionField b) 0 (omega arith)) (record { one-digit = lit≤ tt; below = lit< tt })
-            | no n ↦ simp (ne-eqb (fractionField b) 0 (λ e. omega arith)) (subnormal p)
-          ])
-      | no n ↦ simp (ne-eqb (exponentField b) 0 (λ e. omega arith)) (well-normal (fractionField b) (exponentField b) 1023 (field-bounds b .1) p)
-    ]
+    by-form WellFormed b p (λ _ _. record { one-digit = lit≤ tt; below = lit< tt }) (λ _ _. subnormal p)
+    (λ _. well-normal (fractionField b) (exponentField b) 1023 (field-bounds b .1) p)
   where
     unscaled : WellFormed (subnormalForm (fractionField b))
     unscaled = record { one-digit = lit≤ tt; below = field-bounds b .1 }
@@ -110,11 +117,7 @@ well-formed b p =
 
     subnormal : (p : NumericParam) → WellFormed (subnormalOf p (fractionField b))
     subnormal FromArgument = unscaled
-    subnormal (Literal p) =
-        elim (decLt p 13) [
-          | yes k ↦ simp (lt-ltb p 13 k) (scaled p)
-          | no n ↦ simp (le-ltb p 13 (omega arith)) unscaled
-        ]
+    subnormal (Literal p) = by-test WellFormed (ltb p 13) _ _ (λ _. scaled p) (λ _. unscaled)
 
 -- The significand 2 ^ 52 + f, of 13 digits behind the point, as the parts write it: m * 16 ^ 13 is it times 16 to the number of digits.
 module _ (f e bias : ℕ) where
