@@ -20,7 +20,7 @@ exponentField b = b % 2 ^ 63 / 2 ^ 52
 unfoldable pub fractionField : ℕ → ℕ
 fractionField b = b % 2 ^ 52
 
--- IEEE 754-2019, 3.4, a) to e): what E and T say.
+-- IEEE 754-2019, 3.4: a) NaN, b) infinity, c) to e) finite.
 unfoldable pub categoryOf : ℕ → FpCategory
 categoryOf b =
     choose (eqb (exponentField b) 2047) (λ _. choose (eqb (fractionField b) 0) (λ _. Infinite) (λ _. Nan)) (λ _. Finite)

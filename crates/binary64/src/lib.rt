@@ -4,7 +4,7 @@
 use params::NumericParam;
 ghost use mathlib.Core.Path.{_≡_};
 ghost use mathlib.Core.Bool.{Bool};
-ghost use Prim.Native.Nat.{_+_, _-_, _*_, _/_, _^_, _≤_, _<_};
+ghost use Prim.Native.Nat.{_^_, _≤_, _<_};
 ghost use lib.ListN.{length};
 ghost use Rattle.writing.specs.Laid.{laid};
 ghost use Rattle.binary64.specs.Fields.{negative, exponentField, fractionField, categoryOf, scaledBits};
@@ -29,7 +29,7 @@ pub fn to_parts(bits: u64) -> FloatParts
     }
 }
 
-// The kinds of value; the original's standard library tells apart three that are finite.
+// What bits stand for; the original's standard library tells apart three cases that are finite.
 pub enum FpCategory {
     Nan,
     Infinite,

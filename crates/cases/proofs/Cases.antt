@@ -13,7 +13,7 @@ use Rattle.binary64.specs.HexFloat.{shortest, rounded, hexFloatOf, exponentText
 use Rattle.binary64.specs.Rounding.{nearestTo, keptDigits}
 use Rattle.utf8.specs.Utf8.{leadOf, wellFormedFrom, wellFormed}
 use Rattle.conversions.specs.Letters.{smallOf, capitalOf}
-use Rattle.conversions.specs.Kinds.{kindOf, isInteger, integerForm, fitsKind, printsAs}
+use Rattle.conversions.specs.Kinds.{kindOf, isIntegerKind, integerForm, fitsKind, printsAs}
 use Rattle.specifiers.specs.Flags.{leadingFlags, firstClash, flagsAt}
 use Rattle.specifiers.specs.Specifier.{precisionAt, letterAt, partsAt, specifierAt}
 use Rattle.parsing.specs.Pieces.{indexAt, argumentAt, elementAt, pieceAt}
@@ -30,7 +30,7 @@ pub theorem-cases : T (allHold cases)
 unfolding mul ofBits toBits digitsIn placesWithin places digits numberFrom numberOf letterOf lettersOf numeral grouped intOf
     leadingDigits numberTaken numberAt paramAt spaces headText tailText framed spare frameOf padded
     negative exponentField fractionField categoryOf scaledBits shortest rounded hexFloatOf exponentText hexFloatText nearestTo keptDigits
-    leadOf wellFormedFrom wellFormed smallOf capitalOf kindOf isInteger integerForm fitsKind printsAs
+    leadOf wellFormedFrom wellFormed smallOf capitalOf kindOf isIntegerKind integerForm fitsKind printsAs
     has leadingFlags firstClash flagsAt precisionAt letterAt partsAt specifierAt indexAt argumentAt elementAt pieceAt placedFrom endFrom placed ended
     backTo cutLength cutTo cased utf8Of littleEndian wordAt namedText entryAt entriesFrom isRow
     elementText shownPiece textsOf texts joined printedText firstStop measuredEnd measured

@@ -6,7 +6,7 @@ use mathlib.Core.List.{List, [], _∷_}
 use lib.Dec.{eqb}
 use Rattle.writing.specs.Choose.{choose}
 use Rattle.conversions.specs.Letters.{lookup}
-use Rattle.conversions.specs.Kinds.{integers, otherKinds, kindOf, integerForm, onlyIf, formOf}
+use Rattle.conversions.specs.Kinds.{integerKinds, otherKinds, kindOf, integerForm, onlyIf, formOf}
 use Rattle.conversions.specs.declared.ConversionType.{ConversionType}
 use Rattle.conversions.specs.declared.ConversionType.the-variants as C
 use Rattle.conversions.specs.declared.Kind.the-variants as K
@@ -41,13 +41,21 @@ OfByte Q (Known K.Boolean) = Unit {0}
 OfByte Q (Known K.Text) = Unit {0}
 OfByte Q Unknown = Unit {0}
 
+-- Where nothing is claimed, it holds of every byte.
+pub any-byte : (b : KindByte) → OfByte (λ _. Unit {0}) b
+any-byte (Known (K.Signed w)) = tt
+any-byte (Known K.Float64) = tt
+any-byte (Known K.Boolean) = tt
+any-byte (Known K.Text) = tt
+any-byte Unknown = tt
+
 -- A claim of forms holds of the form of a kind where it holds of an integer in each width of that kind, and, of kind 7 alone, of a text.
 module _ (P : Form → Type 0) (Q : ℕ → Type 0) (k : ℕ) (n : P F.NotPrinted) (i : (f : IntegerForm) (w : ℕ) → Q w → P (F.Integer f w))
     (h : P F.HexFloat) (b : P F.Boolean) (t : eqb k 7 ≡ true → P F.Text) where
   integer : (f : IntegerForm) (others : Form) → P others → OfByte Q (kindOf k) → P (integerForm f k others)
   unfolding kindOf integerForm
   integer f others o =
-      together (λ x y. OfByte Q y → P x) (F.Integer f) (λ w. Known (K.Signed w)) (i f) others (lookup (λ b. b) Known Unknown otherKinds k) (λ _. o) integers k
+      together (λ x y. OfByte Q y → P x) (F.Integer f) (λ w. Known (K.Signed w)) (i f) others (lookup (λ b. b) Known Unknown otherKinds k) (λ _. o) integerKinds k
 
   pub form-of : (c : ConversionType) → OfByte Q (kindOf k) → P (formOf c k)
   form-of (C.Integer r) q = integer (Numeral r) F.NotPrinted n q

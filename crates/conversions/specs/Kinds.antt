@@ -16,26 +16,30 @@ use Rattle.conversions.specs.declared.Form.{Form}
 use Rattle.conversions.specs.declared.Form.the-variants.{Integer, HexFloat, Boolean, Text, NotPrinted}
 
 -- 01: "Kinds: 1 to 4 signed integers of 8, 16, 32 and 64 bits": each with its width,
-abbrev pub integers : List (ℕ × ℕ)
-integers = (1, 8) ∷ (2, 16) ∷ (3, 32) ∷ (4, 64) ∷ []
+abbrev pub integerKinds : List (ℕ × ℕ)
+integerKinds = (1, 8) ∷ (2, 16) ∷ (3, 32) ∷ (4, 64) ∷ []
 
 -- "5 Float64 ..; 6 Boolean ..; 7 text"
 abbrev pub otherKinds : List (ℕ × Kind)
 otherKinds = (5, K.Float64) ∷ (6, K.Boolean) ∷ (7, K.Text) ∷ []
 
 unfoldable pub kindOf : ℕ → KindByte
-kindOf b = lookup (λ k. k) (λ w. Known (K.Signed w)) (lookup (λ k. k) Known Unknown otherKinds b) integers b
+kindOf b = lookup (λ k. k) (λ w. Known (K.Signed w)) (lookup (λ k. k) Known Unknown otherKinds b) integerKinds b
 
 -- What fits. 01: "b needs 6; c, d, o, x need 1 to 4; e, f, g, a need 1 to 5; t and T fit none of our kinds; s and h take all."
-unfoldable pub isInteger : ℕ → Bool
-isInteger k = lookup (λ b. b) (λ w. true) false integers k
+unfoldable pub isIntegerKind : ℕ → Bool
+isIntegerKind k = lookup (λ b. b) (λ w. true) false integerKinds k
 
+abbrev pub isNumberKind : ℕ → Bool
+isNumberKind k = isIntegerKind k || eqb k 5
+
+-- A byte that is no kind never comes here: 3 and 14 come before.
 abbrev pub fits : ConversionType → ℕ → Bool
 fits C.Boolean k = eqb k 6
-fits C.Char k = isInteger k
-fits (C.Integer r) k = isInteger k
-fits C.DecimalFloat k = isInteger k || eqb k 5
-fits C.HexFloat k = isInteger k || eqb k 5
+fits C.Char k = isIntegerKind k
+fits (C.Integer r) k = isIntegerKind k
+fits C.DecimalFloat k = isNumberKind k
+fits C.HexFloat k = isNumberKind k
 fits (C.Time t) k = false
 fits C.String k = true
 fits C.HexHash k = true
@@ -43,7 +47,7 @@ fits C.HexHash k = true
 -- What prints. 01: integers by %d, %x, %o, %c and %s; %a is "the only" letter "printed for kind 5"; "%b of Boolean and %s of text are the only
 -- letters printed for kinds 6 and 7".
 unfoldable pub integerForm : IntegerForm → ℕ → Form → Form
-integerForm f k others = lookup (λ b. b) (λ w. Integer f w) others integers k
+integerForm f k others = lookup (λ b. b) (λ w. Integer f w) others integerKinds k
 
 abbrev pub onlyIf : Bool → Form → Form
 onlyIf true f = f

@@ -36,7 +36,7 @@ smallLetters =
     ("b", C.Boolean) ∷ ("h", C.HexHash) ∷ ("s", C.String) ∷ ("c", C.Char) ∷ ("d", C.Integer Decimal) ∷ ("o", C.Integer Octal) ∷
     ("x", C.Integer Hexadecimal) ∷ ("e", C.DecimalFloat) ∷ ("f", C.DecimalFloat) ∷ ("g", C.DecimalFloat) ∷ ("a", C.HexFloat) ∷ []
 
--- Java, "Conversions": a capital letter prints as its small letter does, in capitals.
+-- A capital is judged as its small letter (01, "Capitals likewise"), and prints as it does, in capitals (Java, "Conversions").
 abbrev pub capitalLetters : List (Char × ConversionType)
 capitalLetters =
     ("B", C.Boolean) ∷ ("H", C.HexHash) ∷ ("S", C.String) ∷ ("C", C.Char) ∷ ("X", C.Integer Hexadecimal) ∷ ("E", C.DecimalFloat) ∷

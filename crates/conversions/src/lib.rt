@@ -1,12 +1,10 @@
 // The letters of a format, the kinds of value, and which letter fits which kind.
 // Ported from format_string.rs of datafusion-spark 55.2.0 (Apache-2.0; see NOTICE): ConversionType, TimeFormat with its
-// try_from, ConversionType::validate, is_upper and the letters of take_conversion_specifier.
+// try_from, ConversionType::validate and the letters of take_conversion_specifier.
 ghost use mathlib.Core.Path.{_≡_};
-ghost use Prim.Native.Nat.{_<_, _≤_};
 ghost use Rattle.conversions.specs.Letters.{timeOf, smallOf, capitalOf};
-ghost use Rattle.conversions.specs.Kinds.{kindOf, isInteger, fits, fitsKind, integerForm, onlyIf, formOf, printsAs};
-ghost use Rattle.conversions.specs.declared.IntegerForm.the-variants.{Digits};
-ghost use Rattle.conversions.specs.declared.Form.the-variants.{Text, NotPrinted};
+ghost use Rattle.conversions.specs.Kinds.{kindOf, isIntegerKind, isNumberKind, fits, fitsKind, integerForm, onlyIf, formOf, printsAs};
+ghost use Rattle.conversions.specs.declared.Form.the-variants.{NotPrinted};
 
 // The component of a date that a letter behind t or T names.
 pub enum TimeFormat {
@@ -194,7 +192,7 @@ pub fn kind_of(b: u8) -> KindByte
 }
 
 fn is_integer(kind: u8) -> bool
-    ensures { λ r. ⌜ r ≡ isInteger kind ⌝ }
+    ensures { λ r. ⌜ r ≡ isIntegerKind kind ⌝ }
 {
     match kind {
         1 => true,
@@ -206,7 +204,7 @@ fn is_integer(kind: u8) -> bool
 }
 
 fn is_number(kind: u8) -> bool
-    ensures { λ r. ⌜ r ≡ fits ConversionType.HexFloat kind ⌝ }
+    ensures { λ r. ⌜ r ≡ isNumberKind kind ⌝ }
 {
     if is_integer(kind) {
         return true;
@@ -215,7 +213,7 @@ fn is_number(kind: u8) -> bool
 }
 
 // Whether a conversion fits a kind.
-fn fits_kind(conversion: ConversionType, kind: u8) -> bool
+fn fits(conversion: ConversionType, kind: u8) -> bool
     ensures { λ r. ⌜ r ≡ fits conversion kind ⌝ }
 {
     match conversion {
@@ -234,7 +232,7 @@ fn fits_kind(conversion: ConversionType, kind: u8) -> bool
 pub fn validate(conversion: ConversionType, kind: u8) -> bool
     ensures { λ r. ⌜ r ≡ fitsKind conversion kind ⌝ }
 {
-    fits_kind(conversion, kind % 128)
+    fits(conversion, kind % 128)
 }
 
 // An integer in this form; no other kind has it.
@@ -282,7 +280,7 @@ fn only_if(test: bool, form: Form) -> Form
 }
 
 // How a conversion prints a kind.
-fn kind_form(conversion: ConversionType, kind: u8) -> Form
+fn form_of(conversion: ConversionType, kind: u8) -> Form
     ensures { λ r. ⌜ r ≡ formOf conversion kind ⌝ }
 {
     match conversion {
@@ -298,8 +296,8 @@ fn kind_form(conversion: ConversionType, kind: u8) -> Form
 }
 
 // How a conversion prints the kind of this byte, a null mark aside.
-pub fn form_of(conversion: ConversionType, kind: u8) -> Form
+pub fn prints_as(conversion: ConversionType, kind: u8) -> Form
     ensures { λ r. ⌜ r ≡ printsAs conversion kind ⌝ }
 {
-    kind_form(conversion, kind % 128)
+    form_of(conversion, kind % 128)
 }

@@ -395,7 +395,7 @@ pub fn put_element(out: &mut [u8], e: Element, kind: u8, part: &[u8], value: u64
     ensures { λ r. ⌜ Sized (now (out .entry)) (elementText e kind (now (part .entry)) value) r (now (out .exit)) ⌝ }
 {
     let conversion = e.conversion;
-    let form = conversions::form_of(conversion, kind);
+    let form = conversions::prints_as(conversion, kind);
     match form {
         Form::Integer {
             form: written,

@@ -2,7 +2,7 @@
 use mathlib.Core.Path.{_≡_, refl, sym, ap, subst, _∙_}
 use mathlib.Core.Bool.{Bool, true, false}
 use mathlib.Core.List.{List, [], _++_, append-nil, append-assoc}
-use Prim.Native.Nat.{ℕ, _+_, _-_, _≤_, _<_, max}
+use Prim.Native.Nat.{ℕ, _+_, _-_, _≤_, max}
 use native.Mathlib.Nat.{add-assoc}
 use native.Mathlib.Omega.{arith}
 use lib.ListN.{length, take, drop, length-append, length-drop, drop-of-length-le}
@@ -13,7 +13,7 @@ use Rattle.writing.specs.Laid.{laid}
 use Rattle.writing.specs.Writers.{Put}
 use Rattle.writing.proofs.Laid.{lent-back, laid-room, laid-no-room}
 use Rattle.layout.specs.Frame.{opening, prefixText, closing, marks, headText, tailText, framed, spare, frameOf, padded}
-use Rattle.layout.specs.Around.{laidFrom, LeftAround, FramePut}
+use Rattle.layout.specs.Around.{laidFrom, Holds, FramePut}
 use Rattle.layout.specs.Bare.{isBare}
 use Rattle.layout.specs.declared.Mark.{Mark}
 use Rattle.layout.specs.declared.Prefix.{Prefix}
@@ -53,8 +53,8 @@ around-filled d h b t room =
 pub framed-room : (d : List ℕ) (f : Frame) (n : ℕ) (r : Framed) (D : List ℕ) → FramePut d f n r D → r .fits ≡ true → r .at + n ≤ length d
 framed-room d f n r D h e =
     let room = leb-true (r .total) (length d) (sym (h .fits) ∙ e) in
-    let left : LeftAround true d f n (r .at) D = subst (λ (t : Bool). LeftAround t d f n (r .at) D) e (h .left) in
-    omega (arith, h .total, left .0)
+    let held : Holds true d f n (r .at) D = subst (λ (t : Bool). Holds t d f n (r .at) D) e (h .holds) in
+    omega (arith, h .total, held .0)
 
 module _ (w : ℕ) (a : Adjust) (m : Mark) (p : Prefix) (body : List ℕ) (n : ℕ) (q : n ≡ length body) (d : List ℕ) (r : Framed) (D : List ℕ)
     (h : FramePut d (frameOf w a m p n) n r D) where
@@ -76,11 +76,11 @@ module _ (w : ℕ) (a : Adjust) (m : Mark) (p : Prefix) (body : List ℕ) (n : �
   framed-put e Y y =
       let f = frameOf w a m p (length body) in
       let room = leb-true (r .total) (length d) (sym (put .fits) ∙ e) in
-      let left : LeftAround true d f (length body) (r .at) D = subst (λ (t : Bool). LeftAround t d f (length body) (r .at) D) e (put .left) in (
+      let held : Holds true d f (length body) (r .at) D = subst (λ (t : Bool). Holds t d f (length body) (r .at) D) e (put .holds) in (
         size,
         ap (putMid (r .at) (length D - r .at) D) y
             ∙ lent-back D body (r .at)
-            ∙ rw (left .0, left .1) (around-filled d (headText f) body (tailText f) (omega (arith, put .total)))
+            ∙ rw (held .0, held .1) (around-filled d (headText f) body (tailText f) (omega (arith, put .total)))
             ∙ ap (laid d) (sym (padded-is w a m p body f refl))
             ∙ sym (laid-room d (padded w a m p body) (omega (arith, size))),
       )
@@ -88,8 +88,8 @@ module _ (w : ℕ) (a : Adjust) (m : Mark) (p : Prefix) (body : List ℕ) (n : �
   pub framed-not : r .fits ≡ false → Put d (padded w a m p body) (r .total) D
   framed-not e =
       let small = leb-false (r .total) (length d) (sym (put .fits) ∙ e) in
-      let left : D ≡ d = subst (λ (t : Bool). LeftAround t d frame (length body) (r .at) D) e (put .left) in
-      (size, left ∙ sym (laid-no-room d (padded w a m p body) (omega (arith, size))))
+      let held : Holds false d frame (length body) (r .at) D = subst (λ (t : Bool). Holds t d frame (length body) (r .at) D) e (put .holds) in
+      (size, held .1 ∙ sym (laid-no-room d (padded w a m p body) (omega (arith, size))))
 
 -- What a frame brings a text of n bytes to: the width, or more where mark, prefix and text are longer.
 module _ (w : ℕ) (m : Mark) (p : Prefix) (body : List ℕ) where

@@ -19,12 +19,12 @@ abbrev pub around : List ℕ → Frame → ℕ → List ℕ
 around d f n = laidFrom (length (headText f) + n) (laid d (headText f)) (tailText f)
 
 -- Where the text goes, and what the slice holds: the frame, or, without room for frame and text, what it held.
-abbrev pub LeftAround : Bool → List ℕ → Frame → ℕ → ℕ → List ℕ → Type 0
-LeftAround true d f n at out = (at ≡ length (headText f)) × (out ≡ around d f n)
-LeftAround false d f n at out = out ≡ d
+abbrev pub Holds : Bool → List ℕ → Frame → ℕ → ℕ → List ℕ → Type 0
+Holds true d f n at out = (at ≡ length (headText f)) × (out ≡ around d f n)
+Holds false d f n at out = (at ≡ 0) × (out ≡ d)
 
 pub record FramePut (d : List ℕ) (f : Frame) (n : ℕ) (r : Framed) (out : List ℕ) : Type 0 where
   pub total : r .total ≡ (length (headText f) + length (tailText f)) + n
   pub below : r .total < 2 ^ 42
   pub fits : r .fits ≡ leb (r .total) (length d)
-  pub left : LeftAround (r .fits) d f n (r .at) out
+  pub holds : Holds (r .fits) d f n (r .at) out

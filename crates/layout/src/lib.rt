@@ -109,7 +109,7 @@ fn write_short(out: &mut [u8], s: Short) -> usize
 }
 
 // How many bytes mark and prefix have, the closing mark too.
-fn marks_len(mark: Mark, prefix: Prefix) -> u64
+fn all_marks_len(mark: Mark, prefix: Prefix) -> u64
     ensures { λ r. ⌜ (r ≡ length (opening mark) + length (prefixText prefix) + length (closing mark)) × (r ≤ 6) ⌝ }
 {
     let opening = opening_text(mark);
@@ -122,14 +122,14 @@ fn marks_len(mark: Mark, prefix: Prefix) -> u64
 pub fn is_bare(width: u32, mark: Mark, prefix: Prefix) -> bool
     ensures { λ r. ⌜ r ≡ isBare width mark prefix ⌝ }
 {
-    (width as u64) + marks_len(mark, prefix) == 0
+    (width as u64) + all_marks_len(mark, prefix) == 0
 }
 
 // What is left of the width beside mark, prefix and a text of n.
 fn spare_width(width: u32, mark: Mark, prefix: Prefix, n: u64) -> u32
     ensures { λ r. ⌜ r ≡ spare width mark prefix n ⌝ }
 {
-    let marks = marks_len(mark, prefix);
+    let marks = all_marks_len(mark, prefix);
     let whole = width as u64;
     if whole <= marks {
         return 0;
@@ -177,7 +177,7 @@ fn frame_len(f: Frame) -> u64
     let mark = f.mark;
     let prefix = f.prefix;
     let runs = (f.before as u64) + (f.zeros as u64) + (f.after as u64);
-    runs + marks_len(mark, prefix)
+    runs + all_marks_len(mark, prefix)
 }
 
 // Writes what stands in front of the text. Answers its length.

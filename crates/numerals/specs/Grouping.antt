@@ -1,7 +1,7 @@
 -- Commas in decimal text. 01: "Commas every three digits from the right."
 use Prim.Native.Nat.{ℕ, _%_}
 use Prim.Native.Char.{code}
-use mathlib.Core.Bool.{Bool, _&&_}
+use mathlib.Core.Bool.{_&&_}
 use mathlib.Core.List.{List, [], _∷_, _++_}
 use lib.Dec.{ltb, eqb}
 use lib.ListN.{length}

@@ -4,9 +4,9 @@
 pub mod little_endian;
 
 ghost use mathlib.Core.Path.{_≡_};
-ghost use Prim.Native.Nat.{_+_, _-_, _/_, _%_, _^_, _≤_, _<_};
+ghost use Prim.Native.Nat.{_%_, _^_, _≤_, _<_};
 ghost use lib.IntN.{natAbs};
-ghost use lib.ListN.{length, drop};
+ghost use lib.ListN.{length};
 ghost use Rattle.writing.specs.Writers.{Wrote};
 ghost use Rattle.numerals.specs.Digits.{digitsIn, places, letterOf, lettersOf, decimal};
 ghost use Rattle.numerals.specs.Bases.{IsBase};

@@ -2,7 +2,6 @@
 use parsing::Checked;
 use printing::Outcome;
 ghost use mathlib.Core.Path.{_≡_};
-ghost use mathlib.Core.Bool.{true};
 ghost use Prim.Native.Nat.{_*_, _/_, _≤_};
 ghost use lib.ListN.{length};
 ghost use Rattle.parsing.specs.Check.{checked};

@@ -16,7 +16,7 @@ use Rattle.writing.specs.Choose.{choose}
 use Rattle.writing.proofs.Choose.{by-test}
 use Rattle.numerals.specs.Digits.{numberFrom, numberOf}
 use Rattle.params.specs.Params.{isDigit, leadingDigits, numberTaken, numberAt, beginsParam, isParam, paramOf, paramAt}
-use Rattle.params.specs.declared.NumericParam.the-variants.{Literal, FromArgument}
+use Rattle.params.specs.declared.NumericParam.the-variants.{FromArgument}
 use Rattle.params.specs.declared.Number.{Number}
 use Rattle.params.specs.declared.Number.the-variants as N
 use Rattle.params.specs.declared.Taken.the-variants.{Param, TooLarge}

@@ -1,5 +1,4 @@
 -- Steps of the code that no contract of an entry speaks of: a refusal handed upward keeps its number; nothing is asked of what was read.
-use Prim.Native.Nat.{ℕ}
 use mathlib.Core.Path.{_≡_}
 use Rattle.specifiers.specs.declared.Specifier.{Specifier}
 use Rattle.specifiers.specs.declared.Specifier.the-variants as S

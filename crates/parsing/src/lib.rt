@@ -7,7 +7,7 @@ use params::Number;
 use specifiers::Element;
 use specifiers::Specifier;
 ghost use mathlib.Core.Path.{_≡_};
-ghost use Prim.Native.Nat.{_+_, _≤_, _<_};
+ghost use Prim.Native.Nat.{_<_};
 ghost use lib.ListN.{length};
 ghost use Rattle.parsing.specs.Pieces.{start, passed, isIndex, amongKinds, indexAt, sameIndex, argumentAt, elementAt, pieceAt};
 ghost use Rattle.parsing.specs.Refusals.{IndexHanded, SpecifierHanded};

@@ -9,10 +9,7 @@ use lib.ListN.{length}
 use Rattle.writing.specs.Writers.{Put}
 use Rattle.layout.specs.declared.Mark.the-variants.{NoMark}
 use Rattle.conversions.specs.Kinds.{kindOf, printsAs}
-use Rattle.conversions.specs.declared.Kind.the-variants as K
-use Rattle.conversions.specs.declared.KindByte.{KindByte}
-use Rattle.conversions.specs.declared.KindByte.the-variants.{Known, Unknown}
-use Rattle.conversions.proofs.Tables.{OfByte, form-of}
+use Rattle.conversions.proofs.Tables.{OfByte, any-byte, form-of}
 use Rattle.specifiers.specs.declared.Element.{Element}
 use Rattle.parsing.specs.declared.Piece.the-variants.{Element as AnElement}
 use Rattle.strings.specs.Cut.{cutTo}
@@ -55,13 +52,6 @@ module _ (e : Element) (t u : List ℕ) (v k : ℕ) (h : isText k ≡ true → u
       form-of (λ f. valueText e f (isNull k) (cutTo (e .precision) u) v ≡ valueText e f (isNull k) t v) (λ _. Unit {0}) (k % 128) refl (λ f w _. refl) refl refl
       (λ q. ap (λ (x : List ℕ). Text (paddedText e NoMark x)) (cut-again (e .precision) u ∙ ap (cutTo (e .precision)) (h q)))
       (e .conversion)
-
-any-byte : (b : KindByte) → OfByte (λ _. Unit {0}) b
-any-byte (Known (K.Signed w)) = tt
-any-byte (Known K.Float64) = tt
-any-byte (Known K.Boolean) = tt
-any-byte (Known K.Text) = tt
-any-byte Unknown = tt
 
 module _ (s row : List ℕ) (e : Element) where
   pub argument-in : Ready s row (AnElement e) → Argument row (e .argument)

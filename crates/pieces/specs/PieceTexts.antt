@@ -8,7 +8,8 @@ use Rattle.parsing.specs.declared.Piece.{Piece}
 use Rattle.parsing.specs.declared.Piece.the-variants.{Fixed, Byte, Element as AnElement}
 use Rattle.elements.specs.Texts.{Shown, Text, elementText, textOf, stopOf}
 
--- Fixed text and `%%` as they stand in the format, "`%n` a piece holding byte 10", an element by the row's value under the argument that it takes.
+-- Fixed text as it stands in the format, "`%%` .. holding one `%`", which is its second, "`%n` a piece holding byte 10", an element by the row's value under
+-- the argument that it takes.
 unfoldable pub shownPiece : List ℕ → List ℕ → Piece → Shown
 shownPiece s row (Fixed begin len) = Text (take len (drop begin s))
 shownPiece s row (Byte b) = Text (b ∷ [])

@@ -3,7 +3,7 @@ use Prim.Native.Nat.{ℕ, zero, suc, _-_, _<_}
 use mathlib.Core.Path.{_≡_}
 use mathlib.Core.List.{List}
 use lib.ListN.{length, getD, take, drop}
-use Rattle.parsing.specs.Listed.{Placed, placed}
+use Rattle.parsing.specs.Listed.{placed}
 use Rattle.parsing.specs.declared.Piece.{Piece}
 use Rattle.parsing.specs.declared.Piece.the-variants.{Fixed, Byte, Element as AnElement}
 use Rattle.rows.specs.Row.{kindsOf, kindByteOf, valueOf}
@@ -26,7 +26,7 @@ cutOut out ends k = take (getD ends k 0 - endBefore ends k) (drop (endBefore end
 abbrev pub pieceOf : List ℕ → List ℕ → ℕ → Piece
 pieceOf s row k = getD (placed s (kindsOf row)) k (record { piece = Fixed 0 0; from = 0; to = 0 }) .piece
 
--- "the piece of every %d %x %o %a, read by 01's rule, denotes its value": the row's under the argument that the element takes.
+-- What demand 3 says of one piece: read by the reading rule, it denotes the value of the row under the argument that the element takes.
 abbrev pub DenotesValue : List ℕ → Piece → List ℕ → Type 0
 DenotesValue row (Fixed begin len) bytes = Unit {0}
 DenotesValue row (Byte b) bytes = Unit {0}

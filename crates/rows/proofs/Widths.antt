@@ -7,7 +7,7 @@ use native.Mathlib.Omega.{arith}
 use lib.Dec.{eqb}
 use lib.Pow.{pow-lt}
 use Rattle.writing.proofs.Choose.{by-test}
-use Rattle.conversions.specs.Kinds.{integers, otherKinds, kindOf}
+use Rattle.conversions.specs.Kinds.{integerKinds, otherKinds, kindOf}
 use Rattle.conversions.specs.Letters.{lookup}
 use Rattle.conversions.specs.declared.Kind.{Kind}
 use Rattle.conversions.specs.declared.Kind.the-variants as K
@@ -20,7 +20,7 @@ unfoldable ByteWidth : KindByte → Type 0
 ByteWidth (Known k) = HasWidth k
 ByteWidth Unknown = Unit {0}
 
--- the same of every row of the table of integers
+-- the same of every row of the table of integerKinds
 abbrev AllWide : List (ℕ × ℕ) → Type 0
 AllWide [] = Unit {0}
 AllWide (r ∷ rows) = (1 ≤ r .1) × (r .1 ≤ 64) × AllWide rows
@@ -40,7 +40,7 @@ other-kinds b =
 all : (b : ℕ) → ByteWidth (kindOf b)
 unfolding kindOf
 all b =
-    table integers _ b
+    table integerKinds _ b
     (omega arith, omega arith, (omega arith, omega arith, (omega arith, omega arith, (omega arith, omega arith, tt))))
     (other-kinds b)
 

@@ -42,7 +42,7 @@ isNull k = leb 128 k
 abbrev pub partOf : List ℕ → ℕ → List ℕ
 partOf text v = take (v / 2 ^ 32) (drop (v % 2 ^ 32) text)
 
--- The text that the argument a names, where it is of kind 7.
+-- The text that the argument a names, where it is of kind 7; of another kind it is not looked at.
 unfoldable pub namedText : List ℕ → ℕ → List ℕ
 namedText row a = partOf (textArea row) (valueOf row a)
 

@@ -24,7 +24,7 @@ use Rattle.conversions.specs.declared.TimeLetter.{TimeLetter}
 use Rattle.conversions.specs.declared.TimeLetter.the-variants.{Component, NoComponent}
 use Rattle.specifiers.specs.Flags.{leadingFlags, firstClash, flagsTaken, flagsAt}
 use Rattle.specifiers.specs.Specifier.{beginsWith, precisionAt, afterPrecision, afterWidth, afterFlags, partsAt}
-use Rattle.specifiers.specs.Specifier.{capitalLetter, oneLetter, timeLetter, secondLetter, letterFrom, letterAt}
+use Rattle.specifiers.specs.Specifier.{capitalTaken, oneLetter, timeLetter, secondLetter, letterFrom, letterAt}
 use Rattle.specifiers.specs.Specifier.{afterLetter, afterParts, specifierAt}
 use Rattle.specifiers.specs.declared.Flags.{Flags}
 use Rattle.specifiers.specs.declared.FlagsTaken.{FlagsTaken}
@@ -87,7 +87,7 @@ letter-from (b ∷ l) at n h =
     by-test (LetterIn n at) (eqb b (code "t")) _ _ (λ _. second false l h)
     (λ _. by-test (LetterIn n at) (eqb b (code "T")) _ _ (λ _. second true l h) (λ _. one (smallOf b) (capitalOf b) h))
   where
-    capital : (x : Letter) → at + length (b ∷ l) ≤ n → LetterIn n at (capitalLetter x at)
+    capital : (x : Letter) → at + length (b ∷ l) ≤ n → LetterIn n at (capitalTaken x at)
     capital (Conversion c) k = (omega arith, omega arith)
     capital NoConversion k = tt
 

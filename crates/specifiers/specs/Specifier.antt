@@ -1,14 +1,14 @@
 -- An element behind its argument index. Java, "Format String Syntax": index, flags, width, precision and conversion, in this order.
 use Prim.Native.Nat.{ℕ, _+_}
 use Prim.Native.Char.{code}
-use mathlib.Core.Bool.{Bool, true, false, _||_}
+use mathlib.Core.Bool.{Bool, true, false}
 use mathlib.Core.List.{List, [], _∷_}
 use lib.Dec.{eqb}
 use lib.ListN.{drop}
 use Rattle.writing.specs.Choose.{choose}
 use Rattle.params.specs.Params.{paramAt}
 use Rattle.params.specs.declared.NumericParam.{NumericParam}
-use Rattle.params.specs.declared.NumericParam.the-variants.{Literal, FromArgument}
+use Rattle.params.specs.declared.NumericParam.the-variants.{FromArgument}
 use Rattle.params.specs.declared.Taken.{Taken}
 use Rattle.params.specs.declared.Taken.the-variants.{Param, TooLarge}
 use Rattle.conversions.specs.Letters.{timeOf, smallOf, capitalOf}
@@ -41,13 +41,13 @@ unfoldable pub precisionAt : List ℕ → ℕ → Taken
 precisionAt s at = choose (beginsWith (code ".") (drop at s)) (λ _. paramAt true s (at + 1)) (λ _. Param FromArgument at)
 
 -- The letter at the front of a text, from the place at on. 01's table: 10 for "no such letter, or end", 11 for "no such time letter, or end".
-abbrev pub capitalLetter : Letter → ℕ → LetterTaken
-capitalLetter (Conversion c) at = L.Read c true (at + 1)
-capitalLetter NoConversion at = L.Refused 10
+abbrev pub capitalTaken : Letter → ℕ → LetterTaken
+capitalTaken (Conversion c) at = L.Read c true (at + 1)
+capitalTaken NoConversion at = L.Refused 10
 
 abbrev pub oneLetter : Letter → Letter → ℕ → LetterTaken
 oneLetter (Conversion c) capital at = L.Read c false (at + 1)
-oneLetter NoConversion capital at = capitalLetter capital at
+oneLetter NoConversion capital at = capitalTaken capital at
 
 abbrev pub timeLetter : Bool → TimeLetter → ℕ → LetterTaken
 timeLetter upper (Component x) at = L.Read (Time x) upper (at + 2)

@@ -5,7 +5,7 @@ use lib.ListN.{length, getD, drop, drop-of-length-le}
 use lib.Seq.{drop-cons}
 use mathlib.Core.Bool.{Bool, true, false, _&&_}
 use mathlib.Core.List.{List, [], _∷_, _++_}
-use mathlib.Core.Path.{_≡_, refl, sym, ap, _∙_}
+use mathlib.Core.Path.{_≡_, refl, ap, _∙_}
 use Rattle.utf8.specs.Utf8.{between, leadOf, afterLead, wellFormedFrom, wellFormed}
 use Rattle.utf8.specs.Largest.{largestOf}
 use Rattle.utf8.specs.declared.Lead.{Lead}

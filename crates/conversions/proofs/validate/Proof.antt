@@ -6,4 +6,4 @@ use Rattle.conversions.proofs.validate.Tie as tie
 
 pub validate-spec : {M : Type 1} → statement M
 unfolding fitsKind
-validate-spec = tie.close (tie.spec (λ c κs. search needs) (λ c. c .fits-kind .ensures))
+validate-spec = tie.close (tie.spec (λ c κs. search needs) (λ c. c .fits2 .ensures))

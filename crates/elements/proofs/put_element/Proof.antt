@@ -6,8 +6,8 @@ use borrow.Author.Needs.{needs}
 use Rattle.elements.proofs.put_element.Statement.{statement}
 use Rattle.elements.proofs.put_element.Tie as tie
 
-form-of-requires : tie.Need-form-of-requires
-form-of-requires c κs = search needs
+prints-as-requires : tie.Need-prints-as-requires
+prints-as-requires c κs = search needs
 
 enum-known-form : tie.Need-enum-known-form
 enum-known-form c = search needs
@@ -30,7 +30,7 @@ returns c =
     let form = known .before .before in
     let a = form .before .before .before .args in
     sized-text (a .out .now) _ _ _ _
-    (simp (← form .form-of .ensures, known .form .given .1, le-leb 128 (a .kind) (tested .if1 .taken))) (put .format-string .ensures)
+    (simp (← form .prints-as .ensures, known .form .given .1, le-leb 128 (a .kind) (tested .if1 .taken))) (put .format-string .ensures)
 
 format-integer-requires : tie.Need-format-integer-requires
 format-integer-requires c κs = search needs
@@ -67,7 +67,7 @@ returns-2 c =
     let known = tested .before .before in
     let form = known .before .before in
     let a = form .before .before .before .args in
-    simp (← form .form-of .ensures, known .form .given .1, lt-leb 128 (a .kind) (tested .if1 .left)) (put .format-integer .ensures)
+    simp (← form .prints-as .ensures, known .form .given .1, lt-leb 128 (a .kind) (tested .if1 .left)) (put .format-integer .ensures)
 
 same-length-3 : tie.Need-same-length-3
 same-length-3 c = search needs
@@ -79,7 +79,7 @@ returns-3 c =
     let told = put .before .before in
     let form = told .before .before in
     let a = form .before .before .before .args in
-    sized-text (a .out .now) _ _ _ _ (simp (← form .form-of .ensures, told .enum-told .given .1)) (put .format-hex-float .ensures)
+    sized-text (a .out .now) _ _ _ _ (simp (← form .prints-as .ensures, told .enum-told .given .1)) (put .format-hex-float .ensures)
 
 same-length-4 : tie.Need-same-length-4
 same-length-4 c = search needs
@@ -91,7 +91,7 @@ returns-4 c =
     let told = put .before .before in
     let form = told .before .before in
     let a = form .before .before .before .args in
-    sized-text (a .out .now) _ _ _ _ (simp (← form .form-of .ensures, told .enum-told2 .given .1)) (put .format-boolean .ensures)
+    sized-text (a .out .now) _ _ _ _ (simp (← form .prints-as .ensures, told .enum-told2 .given .1)) (put .format-boolean .ensures)
 
 same-length-5 : tie.Need-same-length-5
 same-length-5 c = search needs
@@ -103,20 +103,20 @@ returns-5 c =
     let told = put .before .before in
     let form = told .before .before in
     let a = form .before .before .before .args in
-    sized-text (a .out .now) _ _ _ _ (simp (← form .form-of .ensures, told .enum-told3 .given .1)) (put .format-string2 .ensures)
+    sized-text (a .out .now) _ _ _ _ (simp (← form .prints-as .ensures, told .enum-told3 .given .1)) (put .format-string2 .ensures)
 
 returns-6 : tie.Need-returns-6
 unfolding elementText
 returns-6 c =
     let form = c .before .before in
     let a = form .before .before .before .args in
-    sized-stop (a .out .now) _ 15 (simp (← form .form-of .ensures, c .enum-told4 .given .1))
+    sized-stop (a .out .now) _ 15 (simp (← form .prints-as .ensures, c .enum-told4 .given .1))
 
 pub put-element-spec : {M : Type 1} → statement M
 put-element-spec =
     tie.close
     (tie.spec
-    form-of-requires
+    prints-as-requires
     enum-known-form
     slice-aggregate-format-string
     format-string-requires

@@ -1,6 +1,6 @@
 -- `elements::put_framed_numeral` meets its contract. Assumes nothing.
 use Prim.Native.Nat.{_+_, _≤_}
-use lib.ListN.{length, length-take, length-drop}
+use lib.ListN.{length}
 use native.Mathlib.Omega.{arith}
 use mathlib.Core.Path.{_≡_}
 use mathlib.Core.Bool.{true}

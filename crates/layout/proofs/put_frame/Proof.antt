@@ -1,7 +1,6 @@
 -- `layout::put_frame` meets its contract. Assumes nothing.
 use native.Mathlib.Omega.{arith}
 use mathlib.Core.Path.{refl, sym}
-use lib.ListN.{length}
 use borrow.Author.Needs.{needs}
 use borrow.Author.Tests.{le-leb, lt-leb}
 use Rattle.layout.proofs.put_frame.Statement.{statement}
@@ -18,7 +17,7 @@ returns c =
       total = omega (arith, len .frame-len .ensures .0);
       below = omega (arith, len .frame-len .ensures .1);
       fits = sym (le-leb _ _ (tested .if1 .taken));
-      left = wrote .write-frame .ensures;
+      holds = wrote .write-frame .ensures;
     })
 
 -- and without
@@ -30,7 +29,7 @@ returns-2 c =
       total = omega (arith, len .frame-len .ensures .0);
       below = omega (arith, len .frame-len .ensures .1);
       fits = sym (lt-leb _ _ (c .if1 .left));
-      left = refl;
+      holds = (refl, refl);
     })
 
 pub put-frame-spec : {M : Type 1} → statement M

@@ -1,6 +1,6 @@
 -- `panel::print_accepted` meets its contract. Assumes nothing.
 use Prim.Native.Nat.{ℕ, _/_}
-use mathlib.Core.Path.{_≡_, sym, ap, _∙_}
+use mathlib.Core.Path.{sym, ap, _∙_}
 use mathlib.Core.List.{List}
 use lib.ListN.{length, length-take}
 use lib.Seq.{length-take-le}

@@ -1,10 +1,10 @@
--- `conversions::fits_kind` meets its contract: for each conversion, what the arm is told, and its value. Assumes nothing.
+-- `conversions::fits` meets its contract: for each conversion, what the arm is told, and its value. Assumes nothing.
 use borrow.Author.Needs.{needs}
-use Rattle.conversions.proofs.fits_kind.Statement.{statement}
-use Rattle.conversions.proofs.fits_kind.Tie as tie
+use Rattle.conversions.proofs.fits.Statement.{statement}
+use Rattle.conversions.proofs.fits.Tie as tie
 
-pub fits-kind-spec : {M : Type 1} → statement M
-fits-kind-spec =
+pub fits-spec : {M : Type 1} → statement M
+fits-spec =
     tie.close
     (tie.spec
     (λ c. search needs)
