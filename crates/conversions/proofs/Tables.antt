@@ -55,7 +55,8 @@ module _ (P : Form → Type 0) (Q : ℕ → Type 0) (k : ℕ) (n : P F.NotPrinte
   integer : (f : IntegerForm) (others : Form) → P others → OfByte Q (kindOf k) → P (integerForm f k others)
   unfolding kindOf integerForm
   integer f others o =
-      together (λ x y. OfByte Q y → P x) (F.Integer f) (λ w. Known (K.Signed w)) (i f) others (lookup (λ b. b) Known Unknown otherKinds k) (λ _. o) integerKinds k
+      let kind = lookup (λ b. b) Known Unknown otherKinds k in
+      together (λ x y. OfByte Q y → P x) (F.Integer f) (λ w. Known (K.Signed w)) (i f) others kind (λ _. o) integerKinds k
 
   pub form-of : (c : ConversionType) → OfByte Q (kindOf k) → P (formOf c k)
   form-of (C.Integer r) q = integer (Numeral r) F.NotPrinted n q

@@ -18,7 +18,7 @@ use Rattle.printing.proofs.Joined.{ends-length, nth-end, joined-part}
 use Rattle.printing.proofs.Tallies.{texts-length}
 use Rattle.printing.proofs.Accepted.{Fitted, fitted}
 use Rattle.printing.proofs.Demand.{demand}
-use Rattle.panel.specs.Entries.{printAnswer, allBytes, endsRead, Holds, Prints}
+use Rattle.panel.specs.Entries.{printAnswer, allBytes, endsRead, Holds, Prints, PanelPrints}
 use Rattle.panel.specs.declared.PrintAnswer.{PrintAnswer}
 use Rattle.panel.proofs.Ends.{read-again}
 
@@ -73,13 +73,15 @@ module _ (s row : List ℕ) where
 
   -- what the entry says of a call that prints
   pub prints : (d e : List ℕ) (o : Outcome) (out ends : List ℕ) → Prints s row d e o out ends → AllBytes row → (a : PrintAnswer) → a ≡ printAnswer o
-      → (a ≡ printAnswer (printed s row (length d) (length e / 4)))
-      × ((out ≡ written (printed s row (length d) (length e / 4)) d (printedText s row))
-      × ((ends ≡ written (printed s row (length d) (length e / 4)) e (allBytes (endsFrom 0 (texts s row))))
-      × Demanded s row (printed s row (length d) (length e / 4)) out (endsRead ends)))
+      → PanelPrints s row d e a out ends
   prints d e o out ends w bytes a q =
       let x = w .answer in
       let y = w .bytes ∙ ap (λ (o : Outcome). written o d (printedText s row)) x in
       let z = w .slots ∙ ap (λ (o : Outcome). written o e (allBytes (endsFrom 0 (texts s row)))) x in
       let v = demanded (length d) (length e / 4) _ refl bytes out d e y in
-      (q ∙ ap printAnswer x, (y, (z, subst (λ (l : List ℕ). Demanded s row (printed s row (length d) (length e / 4)) out (endsRead l)) (sym z) v)))
+      record {
+        answer = q ∙ ap printAnswer x;
+        bytes = y;
+        slots = z;
+        demand = subst (λ (l : List ℕ). Demanded s row (printed s row (length d) (length e / 4)) out (endsRead l)) (sym z) v;
+      }

@@ -4,10 +4,12 @@ use Prim.Native.Nat.{ℕ, _/_, _≤_}
 use mathlib.Core.Path.{_≡_}
 use mathlib.Core.List.{List, [], _∷_, _++_}
 use lib.ListN.{length, take}
+use Rattle.writing.specs.Laid.{laid}
 use Rattle.numerals.specs.LittleEndian.{littleEndian, bytesOf}
 use Rattle.parsing.specs.declared.Checked.{Checked}
 use Rattle.parsing.specs.declared.Checked.the-variants as C
 use Rattle.printing.specs.Printing.{texts, printedText, endsFrom, printed, written}
+use Rattle.printing.specs.Demand.{Demanded}
 use Rattle.printing.specs.declared.Outcome.{Outcome}
 use Rattle.printing.specs.declared.Outcome.the-variants.{Accepted, Refused}
 use Rattle.panel.specs.declared.CheckAnswer.{CheckAnswer}
@@ -44,3 +46,14 @@ pub record Prints (s row d e : List ℕ) (o : Outcome) (out ends : List ℕ) : T
   pub answer : o ≡ printed s row (length d) (length e / 4)
   pub bytes : out ≡ written o d (printedText s row)
   pub slots : ends ≡ written o e (allBytes (endsFrom 0 (texts s row)))
+
+-- What an accepted call leaves there.
+abbrev pub BothLaid : List ℕ → List ℕ → List ℕ → List ℕ → List ℕ → List ℕ → Type 0
+BothLaid s row d e out ends = (out ≡ laid d (printedText s row)) × (ends ≡ laid e (allBytes (endsFrom 0 (texts s row))))
+
+-- What panel_print answers and leaves: the answer of printing, text and ends where nothing stops the call, and demand 3 of them.
+pub record PanelPrints (s row d e : List ℕ) (r : PrintAnswer) (out ends : List ℕ) : Type 0 where
+  pub answer : r ≡ printAnswer (printed s row (length d) (length e / 4))
+  pub bytes : out ≡ written (printed s row (length d) (length e / 4)) d (printedText s row)
+  pub slots : ends ≡ written (printed s row (length d) (length e / 4)) e (allBytes (endsFrom 0 (texts s row)))
+  pub demand : Demanded s row (printed s row (length d) (length e / 4)) out (endsRead ends)

@@ -5,11 +5,10 @@ ghost use mathlib.Core.Path.{_≡_};
 ghost use Prim.Native.Nat.{_*_, _/_, _≤_};
 ghost use lib.ListN.{length};
 ghost use Rattle.parsing.specs.Check.{checked};
-ghost use Rattle.printing.specs.Printing.{texts, printedText, endsFrom, measured, printed, written};
-ghost use Rattle.printing.specs.Demand.{Demanded};
+ghost use Rattle.printing.specs.Printing.{measured, printed};
 ghost use Rattle.printing.specs.declared.Outcome.the-variants.{Accepted};
 ghost use Rattle.writing.specs.Laid.{laid};
-ghost use Rattle.panel.specs.Entries.{checkAnswer, printAnswer, allBytes, endsRead, Holds, Prints};
+ghost use Rattle.panel.specs.Entries.{checkAnswer, printAnswer, allBytes, Holds, Prints, BothLaid, PanelPrints};
 
 // number is 0 where the format is accepted; else it is the refusal's, with its place.
 #[repr(C)]
@@ -105,7 +104,7 @@ fn print_long<'a>(
     pieces: u64,
 )
     requires { ⌜ printed (now fmt) (now row) (length (now out)) (length (now ends) / 4) ≡ Accepted bytes pieces ⌝ }
-    ensures { λ r. ⌜ (now (out .exit) ≡ laid (now (out .entry)) (printedText (now (fmt .entry)) (now (row .entry)))) × (now (ends .exit) ≡ laid (now (ends .entry)) (allBytes (endsFrom 0 (texts (now (fmt .entry)) (now (row .entry)))))) ⌝ }
+    ensures { λ r. ⌜ BothLaid (now (fmt .entry)) (now (row .entry)) (now (out .entry)) (now (ends .entry)) (now (out .exit)) (now (ends .exit)) ⌝ }
 {
     let mut slots = [0u32; 512];
     printing::stage(fmt, row, out, &mut slots);
@@ -123,8 +122,9 @@ fn print_accepted<'a>(
     bytes: u64,
     pieces: u64,
 )
-    requires { ⌜ (printed (now fmt) (now row) (length (now out)) (length (now ends) / 4) ≡ Accepted bytes pieces) × (Holds (now fmt) (now row) bytes pieces (now text) (now slots)) ⌝ }
-    ensures { λ r. ⌜ (now (out .exit) ≡ laid (now (out .entry)) (printedText (now (fmt .entry)) (now (row .entry)))) × (now (ends .exit) ≡ laid (now (ends .entry)) (allBytes (endsFrom 0 (texts (now (fmt .entry)) (now (row .entry)))))) ⌝ }
+    requires { ⌜ printed (now fmt) (now row) (length (now out)) (length (now ends) / 4) ≡ Accepted bytes pieces ⌝ }
+    requires { ⌜ Holds (now fmt) (now row) bytes pieces (now text) (now slots) ⌝ }
+    ensures { λ r. ⌜ BothLaid (now (fmt .entry)) (now (row .entry)) (now (out .entry)) (now (ends .entry)) (now (out .exit)) (now (ends .exit)) ⌝ }
 {
     if bytes <= text.len() as u64 {
         if pieces <= slots.len() as u64 {
@@ -163,10 +163,7 @@ pub extern "C" fn panel_print<'a>(
     out: &mut [u8],
     ends: &mut [u8],
 ) -> PrintAnswer
-    ensures { λ r. ⌜ r ≡ printAnswer (printed (now (fmt .entry)) (now (row .entry)) (length (now (out .entry))) (length (now (ends .entry)) / 4)) ⌝ }
-    ensures { λ r. ⌜ now (out .exit) ≡ written (printed (now (fmt .entry)) (now (row .entry)) (length (now (out .entry))) (length (now (ends .entry)) / 4)) (now (out .entry)) (printedText (now (fmt .entry)) (now (row .entry))) ⌝ }
-    ensures { λ r. ⌜ now (ends .exit) ≡ written (printed (now (fmt .entry)) (now (row .entry)) (length (now (out .entry))) (length (now (ends .entry)) / 4)) (now (ends .entry)) (allBytes (endsFrom 0 (texts (now (fmt .entry)) (now (row .entry))))) ⌝ }
-    ensures { λ r. ⌜ Demanded (now (fmt .entry)) (now (row .entry)) (printed (now (fmt .entry)) (now (row .entry)) (length (now (out .entry))) (length (now (ends .entry)) / 4)) (now (out .exit)) (endsRead (now (ends .exit))) ⌝ }
+    ensures { λ r. ⌜ PanelPrints (now (fmt .entry)) (now (row .entry)) (now (out .entry)) (now (ends .entry)) r (now (out .exit)) (now (ends .exit)) ⌝ }
 {
     print_answer(print_staged(fmt, row, out, ends))
 }
