@@ -19,7 +19,8 @@ use Rattle.reading.proofs.Pieces.{float-piece}
 use Rattle.reading.proofs.Denotes.{denotes}
 use Rattle.specifiers.specs.declared.Flags.{Flags}
 use Rattle.specifiers.specs.declared.Element.{Element}
-use Rattle.elements.specs.Texts.{widthOf, fill, hexPrefix, floatMark, finiteText, floatText}
+use Rattle.elements.specs.Texts.{floatText}
+use Rattle.numbers.specs.Numbers.{widthOf, fill, hexPrefix, floatMark, finiteText}
 use Rattle.columns.specs.Columns.{floatLetter, FloatRead, FiniteRead}
 use Rattle.columns.proofs.Frames.{padded-read, sign-mark}
 

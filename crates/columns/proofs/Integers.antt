@@ -29,7 +29,7 @@ use Rattle.conversions.specs.declared.Radix.the-variants as R
 use Rattle.specifiers.specs.declared.Flags.{Flags}
 use Rattle.specifiers.specs.declared.Element.{Element}
 use Rattle.rows.specs.Row.{holds}
-use Rattle.elements.specs.Texts.{widthOf, fill, integerMark, commas, ifAlternate, hexPrefix, paddedNumber, numeralText}
+use Rattle.numbers.specs.Numbers.{widthOf, fill, integerMark, commas, ifAlternate, hexPrefix, paddedNumber, numeralText}
 use Rattle.columns.specs.Columns.{numeralLetter, NumeralRead}
 use Rattle.columns.proofs.Frames.{padded-read, sign-mark}
 

@@ -1,5 +1,5 @@
 -- The text of a row's value under an element. 01, "A row printed, or only measured".
-use Prim.Native.Nat.{ℕ, _%_, _^_}
+use Prim.Native.Nat.{ℕ}
 use Prim.Native.Char.{code}
 use mathlib.Core.Bool.{Bool, true, false}
 use mathlib.Core.List.{List, [], _∷_}
@@ -8,85 +8,40 @@ use lib.Dec.{eqb}
 use lib.IntN.{natAbs}
 use Rattle.writing.specs.Choose.{choose}
 use Rattle.writing.specs.Text.{ascii}
-use Rattle.numerals.specs.Digits.{numeral, decimal}
-use Rattle.numerals.specs.Grouping.{grouped}
+use Rattle.numerals.specs.Digits.{decimal}
 use Rattle.numerals.specs.Integers.{intOf, isNegative}
-use Rattle.params.specs.declared.NumericParam.{NumericParam}
-use Rattle.params.specs.declared.NumericParam.the-variants.{Literal, FromArgument}
 use Rattle.layout.specs.Frame.{padded}
 use Rattle.layout.specs.declared.Mark.{Mark}
-use Rattle.layout.specs.declared.Mark.the-variants.{NoMark, Plus, Space, Minus, Brackets}
-use Rattle.layout.specs.declared.Prefix.{Prefix}
-use Rattle.layout.specs.declared.Prefix.the-variants.{NoPrefix, Octal, HexLower, HexUpper}
+use Rattle.layout.specs.declared.Mark.the-variants.{NoMark}
+use Rattle.layout.specs.declared.Prefix.the-variants.{NoPrefix}
 use Rattle.layout.specs.declared.Adjust.{Adjust}
-use Rattle.layout.specs.declared.Adjust.the-variants.{Right, Left, Zeros}
+use Rattle.layout.specs.declared.Adjust.the-variants.{Right, Left}
 use Rattle.binary64.specs.Fields.{negative, categoryOf}
-use Rattle.binary64.specs.HexFloat.{hexFloatOf, hexFloatText}
 use Rattle.binary64.specs.declared.FpCategory.{FpCategory}
 use Rattle.binary64.specs.declared.FpCategory.the-variants as C
 use Rattle.conversions.specs.Kinds.{printsAs}
-use Rattle.conversions.specs.declared.Radix.{Radix}
-use Rattle.conversions.specs.declared.Radix.the-variants as R
 use Rattle.conversions.specs.declared.IntegerForm.{IntegerForm}
 use Rattle.conversions.specs.declared.IntegerForm.the-variants.{Numeral, Scalar, Digits}
 use Rattle.conversions.specs.declared.Form.{Form}
 use Rattle.conversions.specs.declared.Form.the-variants as F
 use Rattle.specifiers.specs.declared.Flags.{Flags}
 use Rattle.specifiers.specs.declared.Element.{Element}
+use Rattle.numbers.specs.Numbers.{widthOf, numeralText, floatMark, finiteText}
 use Rattle.strings.specs.Cut.{cutTo, cased}
 use Rattle.strings.specs.Scalars.{isScalar, utf8Of}
 use Rattle.rows.specs.Row.{isNull}
-
--- A width that is absent pads nothing.
-abbrev pub widthOf : NumericParam → ℕ
-widthOf FromArgument = 0
-widthOf (Literal w) = w
 
 -- Where the padding stands: `-` decides; "`0` pads with spaces" under %s, %c and %b.
 abbrev pub side : Flags → Adjust
 side f = choose (f .left) (λ _. Left) (λ _. Right)
 
-abbrev pub fill : Flags → Adjust
-fill f = choose (f .left) (λ _. Left) (λ _. choose (f .zero) (λ _. Zeros) (λ _. Right))
-
--- A text in capitals or not, padded to the element's width; and a number's digits with mark and prefix, padded to it.
+-- A text in capitals or not, padded to the element's width.
 abbrev pub paddedText : Element → Mark → List ℕ → List ℕ
 paddedText e m t = padded (widthOf (e .width)) (side (e .flags)) m NoPrefix (cased (e .upper) t)
-
-abbrev pub paddedNumber : Element → Mark → Prefix → List ℕ → List ℕ
-paddedNumber e m p t = padded (widthOf (e .width)) (fill (e .flags)) m p t
 
 -- `format_string`: a text, cut to the precision, in capitals or not, padded to the width.
 abbrev pub formatString : Element → List ℕ → List ℕ
 formatString e t = paddedText e NoMark (cutTo (e .precision) t)
-
--- "Mark: `(` and `)` or `-` for negatives, else `+`, else space."
-abbrev pub signMark : Flags → Mark
-signMark f = choose (f .plus) (λ _. Plus) (λ _. choose (f .space) (λ _. Space) (λ _. NoMark))
-
-abbrev pub integerMark : Flags → Bool → Mark
-integerMark f negative = choose negative (λ _. choose (f .parentheses) (λ _. Brackets) (λ _. Minus)) (λ _. signMark f)
-
--- %d: "Commas every three digits from the right. Precision and `#` do nothing."
-abbrev pub commas : Bool → List ℕ → List ℕ
-commas true t = grouped t
-commas false t = t
-
--- %x, %o: "`#` puts `0x`, `0X` or `0` in front"; "Other marks, commas and precision do nothing."
-abbrev pub ifAlternate : Flags → Prefix → Prefix
-ifAlternate f p = choose (f .alternate) (λ _. p) (λ _. NoPrefix)
-
-abbrev pub hexPrefix : Bool → Prefix
-hexPrefix false = HexLower
-hexPrefix true = HexUpper
-
--- An integer of w bits with the 64-bit pattern v. "%x %X %o: `format_unsigned` on the bits at the kind's own width".
-abbrev pub numeralText : Element → Radix → ℕ → ℕ → List ℕ
-numeralText e R.Decimal w v =
-    paddedNumber e (integerMark (e .flags) (isNegative (intOf 64 v))) NoPrefix (commas (e .flags .grouping) (decimal (natAbs (intOf 64 v))))
-numeralText e R.Octal w v = paddedNumber e NoMark (ifAlternate (e .flags) Octal) (numeral false 8 (v % 2 ^ w))
-numeralText e R.Hexadecimal w v =
-    paddedNumber e NoMark (ifAlternate (e .flags) (hexPrefix (e .upper))) (numeral (e .upper) 16 (v % 2 ^ w))
 
 -- An integer's digits as text.
 abbrev pub signedText : Bool → ℕ → List ℕ
@@ -109,15 +64,7 @@ integerText e (Numeral r) w v = Text (numeralText e r w v)
 integerText e Scalar w v = charText e (isNegative (intOf 64 v)) (natAbs (intOf 64 v))
 integerText e Digits w v = Text (formatString e (signedText (isNegative (intOf 64 v)) (natAbs (intOf 64 v))))
 
--- %a: "NaN has no mark; infinity is `Infinity` .. Mark: `-` by the sign bit, else `+`, else space." "`0` pads after `0x` for finite values only."
-abbrev pub floatMark : Flags → Bool → Mark
-floatMark f negative = choose negative (λ _. Minus) (λ _. signMark f)
-
-abbrev pub finiteText : Element → ℕ → List ℕ
-finiteText e v =
-    paddedNumber e (floatMark (e .flags) (negative v)) (hexPrefix (e .upper))
-    (hexFloatText (e .upper) (hexFloatOf v (e .precision)))
-
+-- %a: "NaN has no mark; infinity is `Infinity`", padded as texts are; a finite float is a number.
 abbrev pub floatText : Element → FpCategory → ℕ → List ℕ
 floatText e C.Nan v = paddedText e NoMark (ascii "NaN")
 floatText e C.Infinite v = paddedText e (floatMark (e .flags) (negative v)) (ascii "Infinity")

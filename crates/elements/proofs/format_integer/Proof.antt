@@ -1,5 +1,4 @@
 -- `elements::format_integer` meets its contract. Assumes nothing.
-use Rattle.elements.proofs.Numbers.{numeral-base, numeral-text}
 use Rattle.elements.proofs.Shown.{sized-text}
 use borrow.Author.Needs.{needs}
 use Rattle.elements.proofs.format_integer.Statement.{statement}
@@ -8,14 +7,8 @@ use Rattle.elements.proofs.format_integer.Tie as tie
 enum-known-form : tie.Need-enum-known-form
 enum-known-form c = search needs
 
-numeral-of-requires : tie.Need-numeral-of-requires
-numeral-of-requires c κs = search needs
-
-put-numeral-requires : tie.Need-put-numeral-requires
-put-numeral-requires c κs =
-    let known = c .before .before .before in
-    let a = known .before .before .before .args in
-    simp (c .numeral-of .ensures) (numeral-base (a .e) (known .form .given .0 .0) (a .width) (a .value))
+format-numeral-requires : tie.Need-format-numeral-requires
+format-numeral-requires c κs = search needs
 
 enum-told : tie.Need-enum-told
 enum-told c = search needs
@@ -35,11 +28,9 @@ same-length c = search needs
 returns : tie.Need-returns
 returns c =
     let put = c .before .before in
-    let made = put .before in
-    let known = made .before .before .before in
+    let known = put .before .before .before in
     let a = known .before .before .before .args in
-    sized-text (a .out .now) _ _ _ _ (simp (known .form .given .1))
-    (rw (numeral-text (a .e) (known .form .given .0 .0) (a .width) (a .value)) at (rw (made .numeral-of .ensures) at (put .put-numeral .ensures)))
+    sized-text (a .out .now) _ _ _ _ (simp (known .form .given .1)) (put .format-numeral .ensures)
 
 same-length-2 : tie.Need-same-length-2
 same-length-2 c = search needs
@@ -64,8 +55,7 @@ format-integer-spec =
     tie.close
     (tie.spec
     enum-known-form
-    numeral-of-requires
-    put-numeral-requires
+    format-numeral-requires
     enum-told
     format-char-requires
     enum-told-2

@@ -3,7 +3,7 @@ use mathlib.Core.Path.{sym}
 use lib.ListN.{length-take}
 use lib.Seq.{length-take-le}
 use native.Mathlib.Omega.{arith}
-use Rattle.elements.proofs.Numbers.{wrote-start}
+use Rattle.elements.proofs.Characters.{wrote-start}
 use borrow.Author.Needs.{needs}
 use Rattle.elements.proofs.format_signed_text.Statement.{statement}
 use Rattle.elements.proofs.format_signed_text.Tie as tie

@@ -10,7 +10,8 @@ use Rattle.layout.specs.declared.Prefix.the-variants.{NoPrefix}
 use Rattle.layout.proofs.Padded.{framed-room, framed-put, framed-not}
 use Rattle.strings.specs.Cut.{cased}
 use Rattle.strings.proofs.Cased.{length-cased}
-use Rattle.elements.specs.Texts.{widthOf, side}
+use Rattle.elements.specs.Texts.{side}
+use Rattle.numbers.specs.Numbers.{widthOf}
 use borrow.Author.Needs.{needs}
 use Rattle.elements.proofs.put_padded.Statement.{statement}
 use Rattle.elements.proofs.put_padded.Tie as tie

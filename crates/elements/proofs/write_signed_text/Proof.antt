@@ -10,7 +10,7 @@ use native.Mathlib.Omega.{arith}
 use Rattle.writing.proofs.Laid.{laid-first, laid-next, length-laid}
 use Rattle.numerals.specs.Digits.{digitsIn, lettersOf, decimal}
 use Rattle.numerals.proofs.Digits.{length-numeral, twenty-places}
-use Rattle.elements.proofs.Numbers.{numeral-in}
+use Rattle.numbers.proofs.Numerals.{numeral-in}
 use borrow.Author.Needs.{needs}
 use Rattle.elements.proofs.write_signed_text.Statement.{statement}
 use Rattle.elements.proofs.write_signed_text.Tie as tie

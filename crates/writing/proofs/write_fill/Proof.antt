@@ -8,8 +8,6 @@ use Rattle.writing.proofs.Laid.{laid-none, fill-step}
 use borrow.Author.Needs.{needs}
 use Rattle.writing.proofs.write_fill.Statement.{statement}
 use Rattle.writing.proofs.write_fill.Tie as tie
-use Rattle.writing.proofs.write_fill.Reads as reads
-use Rattle.writing.proofs.write_fill.Lts as lts
 
 abbrev Inv-loop : tie.InvT-loop
 Inv-loop out₀ n b i₀ out i = (i ≤ n) × (length out ≡ length out₀) × (out ≡ laid out₀ (replicate i b))

@@ -9,8 +9,6 @@ use Rattle.writing.proofs.Laid.{laid-none, copy-step}
 use borrow.Author.Needs.{needs}
 use Rattle.writing.proofs.write_text.Statement.{statement}
 use Rattle.writing.proofs.write_text.Tie as tie
-use Rattle.writing.proofs.write_text.Reads as reads
-use Rattle.writing.proofs.write_text.Lts as lts
 
 abbrev Inv-loop : tie.InvT-loop
 Inv-loop out₀ text i₀ out i = (i ≤ length text) × (length out ≡ length out₀) × (out ≡ laid out₀ (take i text))

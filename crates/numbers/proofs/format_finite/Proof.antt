@@ -1,4 +1,4 @@
--- `elements::format_finite` meets its contract. Assumes nothing.
+-- `numbers::format_finite` meets its contract. Assumes nothing.
 use Prim.Native.Nat.{ℕ, _+_, _^_, _<_, _≤_}
 use mathlib.Core.Path.{_≡_}
 use mathlib.Core.Bool.{true, false}
@@ -9,10 +9,10 @@ use Rattle.layout.specs.Frame.{padded}
 use Rattle.layout.proofs.Padded.{framed-room, framed-put, framed-not}
 use Rattle.binary64.specs.HexFloat.{hexFloatText}
 use Rattle.binary64.proofs.Texts.{hex-length, exponent-length}
-use Rattle.elements.specs.Texts.{finiteText}
+use Rattle.numbers.specs.Numbers.{finiteText}
 use borrow.Author.Needs.{needs}
-use Rattle.elements.proofs.format_finite.Statement.{statement}
-use Rattle.elements.proofs.format_finite.Tie as tie
+use Rattle.numbers.proofs.format_finite.Statement.{statement}
+use Rattle.numbers.proofs.format_finite.Tie as tie
 
 -- the places before put_frame
 abbrev measured : tie.After-hex-prefix → tie.After-hex-float-len

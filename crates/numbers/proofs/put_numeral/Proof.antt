@@ -1,4 +1,4 @@
--- `elements::put_numeral` meets its contract. Assumes nothing.
+-- `numbers::put_numeral` meets its contract. Assumes nothing.
 use mathlib.Core.Path.{_≡_, sym, ap, _∙_}
 use mathlib.Core.Bool.{true}
 use mathlib.Core.List.{List}
@@ -7,13 +7,13 @@ use lib.ListN.{length}
 use Rattle.writing.specs.Writers.{laidIfRoom, Put}
 use Rattle.layout.specs.Bare.{isBare}
 use Rattle.layout.proofs.Padded.{bare}
-use Rattle.elements.specs.Texts.{widthOf, fill, paddedNumber}
-use Rattle.elements.specs.Sizes.{digitsText}
+use Rattle.numbers.specs.Numbers.{widthOf, fill, paddedNumber}
+use Rattle.numbers.specs.Numerals.{digitsText}
 use Rattle.specifiers.specs.declared.Element.{Element}
-use Rattle.elements.specs.declared.Numeral.{Numeral}
+use Rattle.numbers.specs.declared.Numeral.{Numeral}
 use borrow.Author.Needs.{needs}
-use Rattle.elements.proofs.put_numeral.Statement.{statement}
-use Rattle.elements.proofs.put_numeral.Tie as tie
+use Rattle.numbers.proofs.put_numeral.Statement.{statement}
+use Rattle.numbers.proofs.put_numeral.Tie as tie
 
 -- the digits alone are the padded numeral
 alone : (d : List ℕ) (e : Element) (n : Numeral) (r : ℕ) (out : List ℕ) → isBare (widthOf (e .width)) (n .mark) (n .prefix) ≡ true

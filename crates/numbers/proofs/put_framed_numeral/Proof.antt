@@ -1,4 +1,4 @@
--- `elements::put_framed_numeral` meets its contract. Assumes nothing.
+-- `numbers::put_framed_numeral` meets its contract. Assumes nothing.
 use Prim.Native.Nat.{_+_, _≤_}
 use lib.ListN.{length}
 use native.Mathlib.Omega.{arith}
@@ -7,11 +7,11 @@ use mathlib.Core.Bool.{true}
 use Rattle.layout.specs.Frame.{frameOf}
 use Rattle.layout.specs.Around.{FramePut}
 use Rattle.layout.proofs.Padded.{framed-room, framed-put, framed-not}
-use Rattle.elements.specs.Texts.{widthOf, fill}
-use Rattle.elements.specs.Sizes.{digitsText}
+use Rattle.numbers.specs.Numbers.{widthOf, fill}
+use Rattle.numbers.specs.Numerals.{digitsText}
 use borrow.Author.Needs.{needs}
-use Rattle.elements.proofs.put_framed_numeral.Statement.{statement}
-use Rattle.elements.proofs.put_framed_numeral.Tie as tie
+use Rattle.numbers.proofs.put_framed_numeral.Statement.{statement}
+use Rattle.numbers.proofs.put_framed_numeral.Tie as tie
 
 -- the places behind numeral_len and at the start, from the place behind put_frame
 abbrev counted : tie.After-put-frame → tie.After-numeral-len

@@ -1,13 +1,13 @@
--- `elements::write_numeral` meets its contract. Assumes nothing.
+-- `numbers::write_numeral` meets its contract. Assumes nothing.
 use mathlib.Core.Path.{_≡_, _∙_}
 use lib.ListN.{length}
 use Rattle.numerals.specs.Digits.{numeral}
 use Rattle.numerals.proofs.Digits.{length-numeral}
 use Rattle.numerals.proofs.Bases.{base-range}
-use Rattle.elements.proofs.Numbers.{numeral-in}
+use Rattle.numbers.proofs.Numerals.{numeral-in}
 use borrow.Author.Needs.{needs}
-use Rattle.elements.proofs.write_numeral.Statement.{statement}
-use Rattle.elements.proofs.write_numeral.Tie as tie
+use Rattle.numbers.proofs.write_numeral.Statement.{statement}
+use Rattle.numbers.proofs.write_numeral.Tie as tie
 
 write-grouped-requires : tie.Need-write-grouped-requires
 write-grouped-requires c κs =

@@ -1,7 +1,7 @@
--- `elements::numeral_of` meets its contract. Assumes nothing.
+-- `numbers::numeral_of` meets its contract. Assumes nothing.
 use borrow.Author.Needs.{needs}
-use Rattle.elements.proofs.numeral_of.Statement.{statement}
-use Rattle.elements.proofs.numeral_of.Tie as tie
+use Rattle.numbers.proofs.numeral_of.Statement.{statement}
+use Rattle.numbers.proofs.numeral_of.Tie as tie
 
 enum-told : tie.Need-enum-told
 enum-told c = search needs

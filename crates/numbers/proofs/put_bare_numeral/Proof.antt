@@ -1,11 +1,11 @@
--- `elements::put_bare_numeral` meets its contract. Assumes nothing.
+-- `numbers::put_bare_numeral` meets its contract. Assumes nothing.
 use mathlib.Core.Path.{sym, _∙_}
 use native.Mathlib.Omega.{arith}
 use Rattle.writing.proofs.Laid.{laid-room, laid-no-room}
-use Rattle.elements.specs.Sizes.{digitsText}
+use Rattle.numbers.specs.Numerals.{digitsText}
 use borrow.Author.Needs.{needs}
-use Rattle.elements.proofs.put_bare_numeral.Statement.{statement}
-use Rattle.elements.proofs.put_bare_numeral.Tie as tie
+use Rattle.numbers.proofs.put_bare_numeral.Statement.{statement}
+use Rattle.numbers.proofs.put_bare_numeral.Tie as tie
 
 numeral-len-requires : tie.Need-numeral-len-requires
 numeral-len-requires c κs = search needs

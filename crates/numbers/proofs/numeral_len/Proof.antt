@@ -1,12 +1,12 @@
--- `elements::numeral_len` meets its contract. Assumes nothing.
+-- `numbers::numeral_len` meets its contract. Assumes nothing.
 use mathlib.Core.Path.{sym, _∙_}
 use native.Mathlib.Omega.{arith}
 use Rattle.numerals.proofs.Digits.{twenty-places, length-numeral}
 use Rattle.numerals.proofs.Bases.{based-places}
 use Rattle.numerals.proofs.Grouping.{length-grouped-decimal}
 use borrow.Author.Needs.{needs}
-use Rattle.elements.proofs.numeral_len.Statement.{statement}
-use Rattle.elements.proofs.numeral_len.Tie as tie
+use Rattle.numbers.proofs.numeral_len.Statement.{statement}
+use Rattle.numbers.proofs.numeral_len.Tie as tie
 
 grouped-len-requires : tie.Need-grouped-len-requires
 grouped-len-requires c κs = search needs

@@ -1,7 +1,7 @@
--- `elements::signed_numeral` meets its contract. Assumes nothing.
+-- `numbers::signed_numeral` meets its contract. Assumes nothing.
 use borrow.Author.Needs.{needs}
-use Rattle.elements.proofs.signed_numeral.Statement.{statement}
-use Rattle.elements.proofs.signed_numeral.Tie as tie
+use Rattle.numbers.proofs.signed_numeral.Statement.{statement}
+use Rattle.numbers.proofs.signed_numeral.Tie as tie
 
 is-negative-requires : tie.Need-is-negative-requires
 is-negative-requires c κs = search needs

@@ -1,0 +1,75 @@
+-- The text of a number under an element. 01, "Integers" and "Hexadecimal floats".
+use Prim.Native.Nat.{ℕ, _%_, _^_}
+use mathlib.Core.Bool.{Bool, true, false}
+use mathlib.Core.List.{List}
+use lib.IntN.{natAbs}
+use Rattle.writing.specs.Choose.{choose}
+use Rattle.numerals.specs.Digits.{numeral, decimal}
+use Rattle.numerals.specs.Grouping.{grouped}
+use Rattle.numerals.specs.Integers.{intOf, isNegative}
+use Rattle.params.specs.declared.NumericParam.{NumericParam}
+use Rattle.params.specs.declared.NumericParam.the-variants.{Literal, FromArgument}
+use Rattle.layout.specs.Frame.{padded}
+use Rattle.layout.specs.declared.Mark.{Mark}
+use Rattle.layout.specs.declared.Mark.the-variants.{NoMark, Plus, Space, Minus, Brackets}
+use Rattle.layout.specs.declared.Prefix.{Prefix}
+use Rattle.layout.specs.declared.Prefix.the-variants.{NoPrefix, Octal, HexLower, HexUpper}
+use Rattle.layout.specs.declared.Adjust.{Adjust}
+use Rattle.layout.specs.declared.Adjust.the-variants.{Right, Left, Zeros}
+use Rattle.binary64.specs.Fields.{negative}
+use Rattle.binary64.specs.HexFloat.{hexFloatOf, hexFloatText}
+use Rattle.conversions.specs.declared.Radix.{Radix}
+use Rattle.conversions.specs.declared.Radix.the-variants as R
+use Rattle.specifiers.specs.declared.Flags.{Flags}
+use Rattle.specifiers.specs.declared.Element.{Element}
+
+-- A width that is absent pads nothing.
+abbrev pub widthOf : NumericParam → ℕ
+widthOf FromArgument = 0
+widthOf (Literal w) = w
+
+-- Where a number's padding stands: `-` decides, else `0` makes it zeros.
+abbrev pub fill : Flags → Adjust
+fill f = choose (f .left) (λ _. Left) (λ _. choose (f .zero) (λ _. Zeros) (λ _. Right))
+
+-- A number's digits with mark and prefix, padded to the element's width.
+abbrev pub paddedNumber : Element → Mark → Prefix → List ℕ → List ℕ
+paddedNumber e m p t = padded (widthOf (e .width)) (fill (e .flags)) m p t
+
+-- "Mark: `(` and `)` or `-` for negatives, else `+`, else space."
+abbrev pub signMark : Flags → Mark
+signMark f = choose (f .plus) (λ _. Plus) (λ _. choose (f .space) (λ _. Space) (λ _. NoMark))
+
+abbrev pub integerMark : Flags → Bool → Mark
+integerMark f negative = choose negative (λ _. choose (f .parentheses) (λ _. Brackets) (λ _. Minus)) (λ _. signMark f)
+
+-- %d: "Commas every three digits from the right. Precision and `#` do nothing."
+abbrev pub commas : Bool → List ℕ → List ℕ
+commas true t = grouped t
+commas false t = t
+
+-- %x, %o: "`#` puts `0x`, `0X` or `0` in front"; "Other marks, commas and precision do nothing."
+abbrev pub ifAlternate : Flags → Prefix → Prefix
+ifAlternate f p = choose (f .alternate) (λ _. p) (λ _. NoPrefix)
+
+abbrev pub hexPrefix : Bool → Prefix
+hexPrefix false = HexLower
+hexPrefix true = HexUpper
+
+-- An integer of w bits with the 64-bit pattern v. "%x %X %o: `format_unsigned` on the bits at the kind's own width".
+abbrev pub numeralText : Element → Radix → ℕ → ℕ → List ℕ
+numeralText e R.Decimal w v =
+    paddedNumber e (integerMark (e .flags) (isNegative (intOf 64 v))) NoPrefix (commas (e .flags .grouping) (decimal (natAbs (intOf 64 v))))
+numeralText e R.Octal w v = paddedNumber e NoMark (ifAlternate (e .flags) Octal) (numeral false 8 (v % 2 ^ w))
+numeralText e R.Hexadecimal w v =
+    paddedNumber e NoMark (ifAlternate (e .flags) (hexPrefix (e .upper))) (numeral (e .upper) 16 (v % 2 ^ w))
+
+-- %a: "Mark: `-` by the sign bit, else `+`, else space."
+abbrev pub floatMark : Flags → Bool → Mark
+floatMark f negative = choose negative (λ _. Minus) (λ _. signMark f)
+
+-- "`0` pads after `0x` for finite values only."
+abbrev pub finiteText : Element → ℕ → List ℕ
+finiteText e v =
+    paddedNumber e (floatMark (e .flags) (negative v)) (hexPrefix (e .upper))
+    (hexFloatText (e .upper) (hexFloatOf v (e .precision)))

@@ -1,0 +1,256 @@
+// The text of a number under an element, with mark, prefix and padding: an integer as a numeral, and a finite float. A writer writes where there is room.
+// Ported from format_string.rs of datafusion-spark 55.2.0 (Apache-2.0; see NOTICE): format_signed and format_unsigned (here the numeral of an integer, and its
+// writer put_numeral), and the finite values of format_hex_float.
+use conversions::Radix;
+use layout::Adjust;
+use layout::Mark;
+use layout::Prefix;
+use params::NumericParam;
+use specifiers::Element;
+use specifiers::Flags;
+ghost use mathlib.Core.Path.{_≡_};
+ghost use Prim.Native.Nat.{_^_, _≤_, _<_};
+ghost use lib.ListN.{length};
+ghost use Rattle.writing.specs.Writers.{Wrote, Put};
+ghost use Rattle.numerals.specs.Bases.{IsBase};
+ghost use Rattle.numbers.specs.Numbers.{widthOf, fill, paddedNumber, signMark, integerMark, ifAlternate, hexPrefix, numeralText, floatMark, finiteText};
+ghost use Rattle.numbers.specs.Numerals.{digitsText, signedNumeral, unsignedNumeral, numeralOf};
+
+// An integer as digits in a base, with its mark and prefix; with commas where grouped is set.
+pub struct Numeral {
+    pub mark: Mark,
+    pub prefix: Prefix,
+    pub value: u64,
+    pub base: u64,
+    pub upper: bool,
+    pub grouped: bool,
+}
+
+pub fn width_of(width: NumericParam) -> u32
+    ensures { λ r. ⌜ r ≡ widthOf width ⌝ }
+{
+    match width {
+        NumericParam::Literal(w) => w,
+        NumericParam::FromArgument => 0,
+    }
+}
+
+// Where a number's padding stands: zeros with `0`.
+fn fill_of(flags: Flags) -> Adjust
+    ensures { λ r. ⌜ r ≡ fill flags ⌝ }
+{
+    if flags.left {
+        return Adjust::Left;
+    }
+    if flags.zero {
+        return Adjust::Zeros;
+    }
+    Adjust::Right
+}
+
+fn sign_mark(flags: Flags) -> Mark
+    ensures { λ r. ⌜ r ≡ signMark flags ⌝ }
+{
+    if flags.plus {
+        return Mark::Plus;
+    }
+    if flags.space {
+        return Mark::Space;
+    }
+    Mark::NoMark
+}
+
+fn integer_mark(flags: Flags, negative: bool) -> Mark
+    ensures { λ r. ⌜ r ≡ integerMark flags negative ⌝ }
+{
+    if negative {
+        if flags.parentheses {
+            return Mark::Brackets;
+        }
+        return Mark::Minus;
+    }
+    sign_mark(flags)
+}
+
+pub fn float_mark(flags: Flags, negative: bool) -> Mark
+    ensures { λ r. ⌜ r ≡ floatMark flags negative ⌝ }
+{
+    if negative {
+        return Mark::Minus;
+    }
+    sign_mark(flags)
+}
+
+// What `#` puts in front.
+fn if_alternate(flags: Flags, prefix: Prefix) -> Prefix
+    ensures { λ r. ⌜ r ≡ ifAlternate flags prefix ⌝ }
+{
+    if flags.alternate {
+        return prefix;
+    }
+    Prefix::NoPrefix
+}
+
+// The prefix of hexadecimal digits.
+fn hex_prefix(upper: bool) -> Prefix
+    ensures { λ r. ⌜ r ≡ hexPrefix upper ⌝ }
+{
+    if upper {
+        return Prefix::HexUpper;
+    }
+    Prefix::HexLower
+}
+
+// How many bytes a numeral's digits and commas take.
+fn numeral_len(n: Numeral) -> usize
+    requires { ⌜ IsBase (n .base) ⌝ }
+    ensures { λ r. ⌜ (r ≡ length (digitsText n)) × (r < 2 ^ 32) ⌝ }
+{
+    if n.grouped {
+        return numerals::grouped_len(n.value);
+    }
+    numerals::digits_len(n.value, n.base)
+}
+
+// Writes them. Answers len, which is how many they are.
+fn write_numeral(out: &mut [u8], n: Numeral, len: usize) -> usize
+    requires { ⌜ (IsBase (n .base)) × (len ≡ length (digitsText n)) × (len ≤ length (now out)) ⌝ }
+    ensures { λ r. ⌜ Wrote (now (out .entry)) (digitsText n) r (now (out .exit)) ⌝ }
+{
+    if n.grouped {
+        return numerals::write_grouped(out, n.value, len);
+    }
+    numerals::write_digits(out, n.value, n.base, len, n.upper)
+}
+
+// A numeral without width, mark and prefix: there is no frame to write.
+fn put_bare_numeral(out: &mut [u8], n: Numeral) -> u64
+    requires { ⌜ IsBase (n .base) ⌝ }
+    ensures { λ r. ⌜ Put (now (out .entry)) (digitsText n) r (now (out .exit)) × (r < 2 ^ 42) ⌝ }
+{
+    let len = numeral_len(n);
+    if len <= out.len() {
+        write_numeral(out, n, len);
+    }
+    len as u64
+}
+
+// A numeral in its frame.
+fn put_framed_numeral(out: &mut [u8], e: Element, n: Numeral) -> u64
+    requires { ⌜ IsBase (n .base) ⌝ }
+    ensures { λ r. ⌜ Put (now (out .entry)) (paddedNumber e (n .mark) (n .prefix) (digitsText n)) r (now (out .exit)) × (r < 2 ^ 42) ⌝ }
+{
+    let width = e.width;
+    let flags = e.flags;
+    let mark = n.mark;
+    let prefix = n.prefix;
+    let len = numeral_len(n);
+    let framed = layout::put_frame(
+        out,
+        width_of(width),
+        fill_of(flags),
+        mark,
+        prefix,
+        len as u64,
+    );
+    if framed.fits {
+        let at = framed.at;
+        write_numeral(&mut out[at..], n, len);
+    }
+    framed.total
+}
+
+// A numeral, padded to the element's width.
+fn put_numeral(out: &mut [u8], e: Element, n: Numeral) -> u64
+    requires { ⌜ IsBase (n .base) ⌝ }
+    ensures { λ r. ⌜ Put (now (out .entry)) (paddedNumber e (n .mark) (n .prefix) (digitsText n)) r (now (out .exit)) × (r < 2 ^ 42) ⌝ }
+{
+    let width = e.width;
+    let mark = n.mark;
+    let prefix = n.prefix;
+    if layout::is_bare(width_of(width), mark, prefix) {
+        return put_bare_numeral(out, n);
+    }
+    put_framed_numeral(out, e, n)
+}
+
+// %d
+fn signed_numeral(flags: Flags, value: u64) -> Numeral
+    ensures { λ r. ⌜ r ≡ signedNumeral flags value ⌝ }
+{
+    Numeral {
+        mark: integer_mark(flags, numerals::is_negative(value)),
+        prefix: Prefix::NoPrefix,
+        value: numerals::magnitude(value),
+        base: 10,
+        upper: false,
+        grouped: flags.grouping,
+    }
+}
+
+// %x and %o of the bits of an integer.
+fn unsigned_numeral(prefix: Prefix, base: u64, upper: bool, bits: u64) -> Numeral
+    ensures { λ r. ⌜ r ≡ unsignedNumeral prefix base upper bits ⌝ }
+{
+    Numeral {
+        mark: Mark::NoMark,
+        prefix: prefix,
+        value: bits,
+        base: base,
+        upper: upper,
+        grouped: false,
+    }
+}
+
+// The numeral of an integer of this width.
+fn numeral_of(e: Element, radix: Radix, width: u32, value: u64) -> Numeral
+    ensures { λ r. ⌜ r ≡ numeralOf e radix width value ⌝ }
+{
+    let flags = e.flags;
+    match radix {
+        Radix::Decimal => signed_numeral(flags, value),
+        Radix::Octal => {
+            let bits = numerals::low_bits(value, width);
+            unsigned_numeral(if_alternate(flags, Prefix::Octal), 8, false, bits)
+        }
+        Radix::Hexadecimal => {
+            let upper = e.upper;
+            let bits = numerals::low_bits(value, width);
+            unsigned_numeral(if_alternate(flags, hex_prefix(upper)), 16, upper, bits)
+        }
+    }
+}
+
+// An integer of this width as a numeral: %d, %x and %o.
+pub fn format_numeral(out: &mut [u8], e: Element, radix: Radix, width: u32, value: u64) -> u64
+    ensures { λ r. ⌜ Put (now (out .entry)) (numeralText e radix width value) r (now (out .exit)) × (r < 2 ^ 42) ⌝ }
+{
+    put_numeral(out, e, numeral_of(e, radix, width, value))
+}
+
+// A finite float.
+pub fn format_finite(out: &mut [u8], e: Element, bits: u64) -> u64
+    ensures { λ r. ⌜ Put (now (out .entry)) (finiteText e bits) r (now (out .exit)) × (r < 2 ^ 42) ⌝ }
+{
+    let width = e.width;
+    let flags = e.flags;
+    let precision = e.precision;
+    let upper = e.upper;
+    let parts = binary64::to_parts(bits);
+    let mark = float_mark(flags, parts.negative);
+    let float = binary64::hex_float(bits, precision);
+    let n = binary64::hex_float_len(float);
+    let framed = layout::put_frame(
+        out,
+        width_of(width),
+        fill_of(flags),
+        mark,
+        hex_prefix(upper),
+        n,
+    );
+    if framed.fits {
+        let at = framed.at;
+        binary64::write_hex_float(&mut out[at..], float, upper);
+    }
+    framed.total
+}
