@@ -23,7 +23,7 @@ use Rattle.strings.specs.Scalars.{utf8Of}
 use Rattle.rows.specs.Row.{namedText, entryAt, entriesFrom, isRow}
 use Rattle.elements.specs.Texts.{elementText}
 use Rattle.pieces.specs.PieceTexts.{shownPiece}
-use Rattle.printing.specs.Printing.{textsOf, texts, joined, printedText, firstStop, measuredEnd, measured}
+use Rattle.outcomes.specs.Printed.{textsOf, texts, joined, printedText, firstStop, measuredEnd, measured}
 use Rattle.cases.specs.Cases.{cases, allHold}
 
 pub theorem-cases : T (allHold cases)

@@ -9,9 +9,9 @@ use lib.ListN.{length}
 use Rattle.numerals.specs.LittleEndian.{bytesOf}
 use Rattle.reading.specs.Examples.{same}
 use Rattle.strings.specs.Scalars.{utf8Of}
-use Rattle.printing.specs.Printing.{printedText, measured}
-use Rattle.printing.specs.declared.Outcome.{Outcome}
-use Rattle.printing.specs.declared.Outcome.the-variants.{Accepted, Refused}
+use Rattle.outcomes.specs.Printed.{printedText, measured}
+use Rattle.outcomes.specs.declared.Outcome.{Outcome}
+use Rattle.outcomes.specs.declared.Outcome.the-variants.{Accepted, Refused}
 
 -- the bytes of a text
 abbrev pub utf8 : String → List ℕ

@@ -9,15 +9,15 @@ use Rattle.writing.specs.Laid.{laid}
 use Rattle.parsing.specs.Listed.{placed}
 use Rattle.rows.specs.Row.{kindsOf}
 use Rattle.rows.proofs.Rows.{AllBytes}
-use Rattle.printing.specs.Printing.{texts, printedText, endsFrom, measured, printed, written}
+use Rattle.outcomes.specs.Printed.{texts, printedText, endsFrom, measured, printed, written}
 use Rattle.printing.specs.Passes.{Filled}
-use Rattle.printing.specs.Demand.{Demanded}
-use Rattle.printing.specs.declared.Outcome.{Outcome}
-use Rattle.printing.specs.declared.Outcome.the-variants.{Accepted, Refused}
-use Rattle.printing.proofs.Joined.{ends-length, nth-end, joined-part}
-use Rattle.printing.proofs.Tallies.{texts-length}
-use Rattle.printing.proofs.Accepted.{Fitted, fitted}
-use Rattle.printing.proofs.Demand.{demand}
+use Rattle.outcomes.specs.Demand.{Demanded}
+use Rattle.outcomes.specs.declared.Outcome.{Outcome}
+use Rattle.outcomes.specs.declared.Outcome.the-variants.{Accepted, Refused}
+use Rattle.outcomes.proofs.Joined.{ends-length, nth-end, joined-part}
+use Rattle.outcomes.proofs.Texts.{texts-length}
+use Rattle.outcomes.proofs.Accepted.{Fitted, fitted}
+use Rattle.outcomes.proofs.Demand.{demand}
 use Rattle.panel.specs.Entries.{printAnswer, allBytes, endsRead, Holds, Prints, PanelPrints}
 use Rattle.panel.specs.declared.PrintAnswer.{PrintAnswer}
 use Rattle.panel.proofs.Ends.{read-again}

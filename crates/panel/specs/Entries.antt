@@ -8,10 +8,10 @@ use Rattle.writing.specs.Laid.{laid}
 use Rattle.numerals.specs.LittleEndian.{littleEndian, bytesOf}
 use Rattle.parsing.specs.declared.Checked.{Checked}
 use Rattle.parsing.specs.declared.Checked.the-variants as C
-use Rattle.printing.specs.Printing.{texts, printedText, endsFrom, printed, written}
-use Rattle.printing.specs.Demand.{Demanded}
-use Rattle.printing.specs.declared.Outcome.{Outcome}
-use Rattle.printing.specs.declared.Outcome.the-variants.{Accepted, Refused}
+use Rattle.outcomes.specs.Printed.{texts, printedText, endsFrom, printed, written}
+use Rattle.outcomes.specs.Demand.{Demanded}
+use Rattle.outcomes.specs.declared.Outcome.{Outcome}
+use Rattle.outcomes.specs.declared.Outcome.the-variants.{Accepted, Refused}
 use Rattle.panel.specs.declared.CheckAnswer.{CheckAnswer}
 use Rattle.panel.specs.declared.PrintAnswer.{PrintAnswer}
 

@@ -1,12 +1,12 @@
 // The panel's C entries: checking, measuring and printing on numbers and byte slices. panel.h has their meaning for C.
 use parsing::Checked;
-use printing::Outcome;
+use outcomes::Outcome;
 ghost use mathlib.Core.Path.{_≡_};
 ghost use Prim.Native.Nat.{_*_, _/_, _≤_};
 ghost use lib.ListN.{length};
 ghost use Rattle.parsing.specs.Check.{checked};
-ghost use Rattle.printing.specs.Printing.{measured, printed};
-ghost use Rattle.printing.specs.declared.Outcome.the-variants.{Accepted};
+ghost use Rattle.outcomes.specs.Printed.{measured, printed};
+ghost use Rattle.outcomes.specs.declared.Outcome.the-variants.{Accepted};
 ghost use Rattle.writing.specs.Laid.{laid};
 ghost use Rattle.panel.specs.Entries.{checkAnswer, printAnswer, allBytes, Holds, Prints, BothLaid, PanelPrints};
 

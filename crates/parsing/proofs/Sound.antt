@@ -1,10 +1,13 @@
 -- A piece that was found lies inside the format, and an element's argument is one of those that there are. Assumes nothing.
 use mathlib.Core.Path.{_≡_, refl}
 use mathlib.Core.List.{List}
-use Prim.Native.Nat.{ℕ, _+_, _-_, _≤_, _<_}
+use Prim.Native.Nat.{ℕ, zero, suc, _+_, _-_, _≤_, _<_}
 use Prim.Native.Char.{code}
 use native.Mathlib.Omega.{arith}
+use lib.Dec.{ltb}
 use lib.ListN.{length, getD, drop}
+use borrow.Author.Tests.{ltb-true}
+use Rattle.refusals.specs.Limits.{mostPieces}
 use Rattle.writing.proofs.Choose.{by-test}
 use Rattle.conversions.specs.Kinds.{fitsKind}
 use Rattle.specifiers.specs.Specifier.{beginsWith, letterAt, afterLetter, partsAt, afterParts, specifierAt}
@@ -15,7 +18,8 @@ use Rattle.specifiers.specs.declared.PartsTaken.{PartsTaken}
 use Rattle.specifiers.specs.declared.PartsTaken.the-variants as P
 use Rattle.specifiers.specs.declared.Specifier.{Specifier}
 use Rattle.specifiers.specs.declared.Specifier.the-variants as S
-use Rattle.parsing.specs.Pieces.{argumentAt, afterSpecifier, afterIndex, elementAt, pieceAt}
+use Rattle.parsing.specs.Pieces.{start, argumentAt, afterSpecifier, afterIndex, elementAt, pieceAt}
+use Rattle.parsing.specs.Listed.{Placed, andRest, placedFrom, placed}
 use Rattle.parsing.specs.Covers.{PieceIn}
 use Rattle.parsing.specs.declared.Index.{Index}
 use Rattle.parsing.specs.declared.Index.the-variants as I
@@ -69,3 +73,25 @@ module _ (s ks : List ℕ) (c : Cursor) where
 
   pub sound : (p : Piece) (n : Cursor) → c .at < length s → pieceAt s ks c ≡ Found p n → PieceIn s ks p
   sound p n h e = (rw e at step-sound) (advanced s ks c p n h e .inside)
+
+-- So it is with every piece that is listed.
+module _ (s ks : List ℕ) where
+  abbrev AllIn : Placed → List Placed → Type 0
+  AllIn d l = (i : ℕ) → i < length l → PieceIn s ks (getD l i d .piece)
+
+  inside-from : (n : ℕ) (c : Cursor) (d : Placed) → AllIn d (placedFrom n (pieceAt s ks) (length s) c)
+  unfolding placedFrom
+  inside-from zero c d = λ i h. absurd (omega arith)
+  inside-from (suc n) c d =
+      by-test (AllIn d) (ltb (c .at) (length s)) _ _
+      (λ h. go (pieceAt s ks c) refl (ltb-true (c .at) (length s) h) (λ m. inside-from n m d)) (λ _ i h. absurd (omega arith))
+    where
+      go : (t : Step) → pieceAt s ks c ≡ t → c .at < length s → ((m : Cursor) → AllIn d (placedFrom n (pieceAt s ks) (length s) m))
+          → AllIn d (andRest t c (λ m. placedFrom n (pieceAt s ks) (length s) m))
+      go (Found p m) e h ih zero k = sound s ks c p m h e
+      go (Found p m) e h ih (suc i) k = ih m i (omega arith)
+      go (Refused number) e h ih i k = absurd (omega arith)
+
+  pub all-inside : (i : ℕ) (d : Placed) → i < length (placed s ks) → PieceIn s ks (getD (placed s ks) i d .piece)
+  unfolding placed
+  all-inside i d h = inside-from mostPieces start d i h

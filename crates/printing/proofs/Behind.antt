@@ -15,10 +15,11 @@ use Rattle.parsing.specs.declared.Piece.{Piece}
 use Rattle.elements.specs.Sizes.{Sized}
 use Rattle.elements.specs.declared.Size.{Size}
 use Rattle.pieces.specs.PieceTexts.{shownPiece, pieceText}
-use Rattle.printing.specs.Printing.{joined, endsFrom}
-use Rattle.printing.specs.Passes.{TallyBelow, Added, added, behind, withEnd}
+use Rattle.outcomes.specs.Printed.{joined, endsFrom}
+use Rattle.printing.specs.Passes.{Room, TallyBelow, Added, added, behind, withEnd}
 use Rattle.printing.specs.declared.Tally.{Tally}
-use Rattle.printing.proofs.Joined.{joined-one, ends-one, ends-length}
+use Rattle.outcomes.proofs.Accepted.{Fitted}
+use Rattle.outcomes.proofs.Joined.{joined-one, ends-one, ends-length}
 
 -- its own first bytes
 laid-self : (d : List ℕ) (n : ℕ) → n ≤ length d → laid d (take n d) ≡ d
@@ -79,4 +80,12 @@ added-one s row p at k t d e from f z Y w r q b E h = record {
   below = b;
   bytes = λ n i j. put-behind d (pieceText s row p) Y n from (f ∙ ap (λ (x : Tally). behind x (length d)) i) j (w .bytes);
   slot = h;
+}
+
+-- that 17 is excluded
+pub fitted-room : (s row d e : List ℕ) (n k : ℕ) → Fitted s row (length d) (length e) n k → Room s row d e
+fitted-room s row d e n k f = record {
+  bytes = omega (arith, f .accepts .total, f .bytes);
+  wide = omega (arith, f .accepts .total, f .wide);
+  slots = omega (arith, f .accepts .pieces, f .slots-enough);
 }

@@ -23,15 +23,16 @@ use Rattle.parsing.proofs.Sound.{sound}
 use Rattle.rows.specs.Row.{kindsOf}
 use Rattle.pieces.specs.PieceTexts.{pieceText}
 use Rattle.pieces.specs.Ready.{Ready}
-use Rattle.printing.specs.Printing.{textsOf, texts, joined, printedText, endsFrom, Stop, firstStop, unlessStopped}
+use Rattle.outcomes.specs.Printed.{textsOf, texts, joined, printedText, endsFrom, Stop, firstStop, unlessStopped}
 use Rattle.printing.specs.Passes.{counted, tallied, outcomeOf, withEnd, TallyBelow, Passed, Room, Filled, Added, Walk}
-use Rattle.printing.specs.declared.Outcome.{Outcome}
-use Rattle.printing.specs.declared.Outcome.the-variants.{Accepted}
+use Rattle.outcomes.specs.declared.Outcome.{Outcome}
+use Rattle.outcomes.specs.declared.Outcome.the-variants.{Accepted}
 use Rattle.printing.specs.declared.Tally.{Tally}
 use Rattle.printing.specs.declared.Tally.the-variants.{Length, Stops}
-use Rattle.printing.proofs.Joined.{joined-part}
+use Rattle.outcomes.proofs.Joined.{joined-part}
 use Rattle.printing.proofs.Reached.{Reached, reached-start, next-inside, taken-next, reached-next, reached-end, all-taken, all-counted, largest-one}
-use Rattle.printing.proofs.Tallies.{texts-one, texts-length, texts-take, tallied-one, tally-length, tally-end}
+use Rattle.outcomes.proofs.Texts.{texts-one, texts-length, texts-take}
+use Rattle.printing.proofs.Tallies.{tallied-one, tally-length, tally-end}
 use Rattle.printing.proofs.Behind.{joined-length, text-behind, end-behind}
 
 -- The texts of the first k pieces.

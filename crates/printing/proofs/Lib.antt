@@ -1,9 +1,6 @@
-pub mod Joined
 mod Reached
-pub mod Tallies
-pub mod Accepted
+mod Tallies
 mod Behind
 mod Laying
 mod Outcomes
-pub mod Demand
 mod Known

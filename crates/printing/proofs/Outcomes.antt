@@ -10,10 +10,10 @@ use Rattle.parsing.specs.declared.Checked.the-variants as C
 use Rattle.parsing.specs.declared.Ended.{Ended}
 use Rattle.parsing.specs.declared.Ended.the-variants.{Finished, Stopped}
 use Rattle.rows.specs.Row.{kindsOf}
-use Rattle.printing.specs.Printing.{textsOf, texts, joined, printedText, firstStop, unlessStopped, measuredEnd}
+use Rattle.outcomes.specs.Printed.{textsOf, texts, joined, printedText, firstStop, unlessStopped, measuredEnd}
 use Rattle.printing.specs.Passes.{outcomeOf, checkedOf, checkedBy, Filled, Walk}
-use Rattle.printing.specs.declared.Outcome.{Outcome}
-use Rattle.printing.specs.declared.Outcome.the-variants.{Accepted}
+use Rattle.outcomes.specs.declared.Outcome.{Outcome}
+use Rattle.outcomes.specs.declared.Outcome.the-variants.{Accepted}
 use Rattle.printing.specs.declared.Tally.{Tally}
 use Rattle.printing.specs.declared.Walked.{Walked}
 use Rattle.printing.proofs.Tallies.{tally-end}

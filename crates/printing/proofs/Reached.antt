@@ -20,7 +20,7 @@ use Rattle.parsing.specs.declared.Step.the-variants.{Found, Refused}
 use Rattle.parsing.specs.declared.Ended.the-variants.{Finished, Stopped}
 use Rattle.parsing.proofs.Sound.{sound}
 use Rattle.parsing.proofs.Iteration.{placed-found, end-found, end-refused, end-many, placed-past, end-past}
-use Rattle.printing.proofs.Joined.{next-below, next-rest, next-taken, none-left}
+use Rattle.outcomes.proofs.Joined.{next-below, next-rest, next-taken, none-left}
 
 pub record Reached (s ks : List ℕ) (k : ℕ) (c : Cursor) : Type 0 where
   few : k ≤ mostPieces
@@ -91,28 +91,6 @@ module _ {s ks : List ℕ} {k : ℕ} {c : Cursor} (at : Reached s ks k c) where
     all-counted =
         let z : length (placed s ks) - k ≡ 0 = sym (length-drop k (placed s ks)) ∙ ap length all-gone in
         omega (arith, at .inside)
-
--- every piece that is listed lies inside the format, with an argument that there is
-module _ (s ks : List ℕ) where
-  abbrev AllIn : Placed → List Placed → Type 0
-  AllIn d l = (i : ℕ) → i < length l → PieceIn s ks (getD l i d .piece)
-
-  inside-from : (n : ℕ) (c : Cursor) (d : Placed) → AllIn d (placedFrom n (pieceAt s ks) (length s) c)
-  unfolding placedFrom
-  inside-from zero c d = λ i h. absurd (omega arith)
-  inside-from (suc n) c d =
-      by-test (AllIn d) (ltb (c .at) (length s)) _ _
-      (λ h. go (pieceAt s ks c) refl (ltb-true (c .at) (length s) h) (λ m. inside-from n m d)) (λ _ i h. absurd (omega arith))
-    where
-      go : (t : Step) → pieceAt s ks c ≡ t → c .at < length s → ((m : Cursor) → AllIn d (placedFrom n (pieceAt s ks) (length s) m))
-          → AllIn d (andRest t c (λ m. placedFrom n (pieceAt s ks) (length s) m))
-      go (Found p m) e h ih zero k = sound s ks c p m h e
-      go (Found p m) e h ih (suc i) k = ih m i (omega arith)
-      go (Refused number) e h ih i k = absurd (omega arith)
-
-  pub all-inside : (i : ℕ) (d : Placed) → i < length (placed s ks) → PieceIn s ks (getD (placed s ks) i d .piece)
-  unfolding placed
-  all-inside i d h = inside-from mostPieces start d i h
 
 -- the largest argument of some pieces and one more
 pub largest-one : (ps : List Placed) (p : Placed) → largestOf (ps ++ (p ∷ [])) ≡ max (largestOf ps) (argumentOf (p .piece))

@@ -9,9 +9,10 @@ use Rattle.parsing.specs.Listed.{Placed}
 use Rattle.elements.specs.Texts.{Shown, Text, Stops, textOf, stopOf}
 use Rattle.elements.specs.Sizes.{sizeOf}
 use Rattle.pieces.specs.PieceTexts.{shownPiece, pieceText, pieceStop}
-use Rattle.printing.specs.Printing.{textsOf, joined, Stop, stopAt, firstStop, unlessStopped}
+use Rattle.outcomes.specs.Printed.{textsOf, joined, Stop, stopAt, firstStop, unlessStopped}
+use Rattle.outcomes.proofs.Texts.{stop-part}
 use Rattle.printing.specs.Passes.{added, counted, tallied, outcomeOf}
-use Rattle.printing.specs.declared.Outcome.the-variants.{Accepted}
+use Rattle.outcomes.specs.declared.Outcome.the-variants.{Accepted}
 use Rattle.printing.specs.declared.Tally.{Tally}
 use Rattle.printing.specs.declared.Tally.the-variants as T
 use Rattle.parsing.specs.declared.Ended.the-variants.{Finished}
@@ -22,52 +23,6 @@ unlessStop none n = T.Length n
 unlessStop (some t) n = T.Stops (t .number) (t .place)
 
 module _ (s row : List ℕ) where
-  pub texts-one : (ps : List Placed) (p : Placed) → textsOf s row (ps ++ (p ∷ [])) ≡ textsOf s row ps ++ (pieceText s row (p .piece) ∷ [])
-  unfolding textsOf
-  texts-one [] p = refl
-  texts-one (q ∷ ps) p = ap (λ (ts : List (List ℕ)). pieceText s row (q .piece) ∷ ts) (texts-one ps p)
-
-  pub texts-length : (ps : List Placed) → length (textsOf s row ps) ≡ length ps
-  unfolding textsOf
-  texts-length [] = refl
-  texts-length (p ∷ ps) = ap suc (texts-length ps)
-
-  pub texts-take : (k : ℕ) (ps : List Placed) → textsOf s row (take k ps) ≡ take k (textsOf s row ps)
-  unfolding textsOf
-  texts-take zero ps = refl
-  texts-take (suc k) [] = refl
-  texts-take (suc k) (p ∷ ps) = ap (λ (ts : List (List ℕ)). pieceText s row (p .piece) ∷ ts) (texts-take k ps)
-
-  pub texts-nth : (ps : List Placed) (i : ℕ) (d : Placed) → i < length ps → getD (textsOf s row ps) i [] ≡ pieceText s row (getD ps i d .piece)
-  unfolding textsOf
-  texts-nth [] i d h = absurd (omega arith)
-  texts-nth (p ∷ ps) zero d h = refl
-  texts-nth (p ∷ ps) (suc i) d h = texts-nth ps i d (omega arith)
-
-  -- nothing stops a piece, nor the first k, where nothing stops any
-  pub no-stop : (ps : List Placed) (i : ℕ) (d : Placed) → firstStop s row ps ≡ none → i < length ps → pieceStop s row (getD ps i d .piece) ≡ none
-  unfolding firstStop
-  no-stop [] i d e h = absurd (omega arith)
-  no-stop (p ∷ ps) i d e h = go (pieceStop s row (p .piece)) refl (λ j. no-stop ps j d) i h e
-    where
-      go : (x : Option ℕ) → pieceStop s row (p .piece) ≡ x
-          → ((j : ℕ) → firstStop s row ps ≡ none → j < length ps → pieceStop s row (getD ps j d .piece) ≡ none)
-          → (i : ℕ) → i < length (p ∷ ps) → stopAt x (p .from) (firstStop s row ps) ≡ none → pieceStop s row (getD (p ∷ ps) i d .piece) ≡ none
-      go none q ih zero h e = q
-      go none q ih (suc i) h e = ih i e (omega arith)
-      go (some n) q ih i h e = absurd (let z : _≡_ {A = ℕ} 0 1 = cc in omega arith)
-
-  stop-part : (k : ℕ) (ps : List Placed) → firstStop s row ps ≡ none → firstStop s row (take k ps) ≡ none
-  unfolding firstStop
-  stop-part zero ps e = refl
-  stop-part (suc k) [] e = refl
-  stop-part (suc k) (p ∷ ps) e = go (pieceStop s row (p .piece)) e (stop-part k ps)
-    where
-      go : (x : Option ℕ) → stopAt x (p .from) (firstStop s row ps) ≡ none → (firstStop s row ps ≡ none → firstStop s row (take k ps) ≡ none)
-          → stopAt x (p .from) (firstStop s row (take k ps)) ≡ none
-      go none e ih = ih e
-      go (some n) e ih = e
-
   -- one piece more
   pub tallied-one : (t : Tally) (ps : List Placed) (p : Placed)
       → tallied s row t (ps ++ (p ∷ [])) ≡ counted s row (p .piece) (p .from) (tallied s row t ps)

@@ -1,3 +1,1 @@
-pub mod Printing
 pub mod Passes
-pub mod Demand

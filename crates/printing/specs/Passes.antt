@@ -21,12 +21,12 @@ use Rattle.elements.specs.Sizes.{sizeOf}
 use Rattle.elements.specs.declared.Size.{Size}
 use Rattle.elements.specs.declared.Size.the-variants as S
 use Rattle.pieces.specs.PieceTexts.{shownPiece, pieceText}
-use Rattle.printing.specs.declared.Outcome.{Outcome}
-use Rattle.printing.specs.declared.Outcome.the-variants.{Accepted, Refused}
+use Rattle.outcomes.specs.declared.Outcome.{Outcome}
+use Rattle.outcomes.specs.declared.Outcome.the-variants.{Accepted, Refused}
 use Rattle.printing.specs.declared.Tally.{Tally}
 use Rattle.printing.specs.declared.Tally.the-variants.{Length, Stops}
 use Rattle.printing.specs.declared.Walked.{Walked}
-use Rattle.printing.specs.Printing.{texts, printedText, endsFrom}
+use Rattle.outcomes.specs.Printed.{texts, printedText, endsFrom}
 
 -- A pass, piece by piece: the length so far, or the first piece that is not printed.
 abbrev pub addSize : ℕ → ℕ → Size → Tally

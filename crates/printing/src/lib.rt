@@ -4,6 +4,7 @@
 // room; what is lent to a caller is written only once no refusal is left.
 use conversions::KindByte;
 use elements::Size;
+use outcomes::Outcome;
 use parsing::Checked;
 use parsing::Ended;
 use parsing::Piece;
@@ -16,15 +17,9 @@ ghost use Rattle.parsing.specs.Check.{argumentOf, isKnown, allKnown, checked};
 ghost use Rattle.parsing.specs.declared.Ended.the-variants.{Finished};
 ghost use Rattle.elements.specs.Sizes.{SizeBelow};
 ghost use Rattle.pieces.specs.Ready.{Ready};
-ghost use Rattle.printing.specs.Printing.{texts, printedText, endsFrom, measured, ifRoom, printed, written};
+ghost use Rattle.outcomes.specs.Printed.{texts, printedText, endsFrom, measured, ifRoom, printed, written};
 ghost use Rattle.printing.specs.Passes.{TallyBelow, Walkable, Filled, Added, Walk, StopsAt, behind, withEnd, added, outcomeOf, checkedBy};
-ghost use Rattle.printing.specs.Demand.{Demanded};
-
-// The answer of a call: the text's length and the number of pieces, or a refusal with its number and place.
-pub enum Outcome {
-    Accepted { length: u64, pieces: u64 },
-    Refused { number: u8, place: usize },
-}
+ghost use Rattle.outcomes.specs.Demand.{Demanded};
 
 // What a pass adds up: the length of the pieces so far, or the first of them that is not printed.
 pub enum Tally {

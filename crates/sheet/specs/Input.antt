@@ -6,9 +6,9 @@ use lib.Dec.{leb}
 use lib.ListN.{length, take, drop}
 use Rattle.writing.specs.Choose.{choose}
 use Rattle.numerals.specs.LittleEndian.{wordAt}
-use Rattle.printing.specs.Printing.{texts, printedText, endsFrom, printed, written}
-use Rattle.printing.specs.declared.Outcome.{Outcome}
-use Rattle.printing.specs.declared.Outcome.the-variants.{Accepted, Refused}
+use Rattle.outcomes.specs.Printed.{texts, printedText, endsFrom, printed, written}
+use Rattle.outcomes.specs.declared.Outcome.{Outcome}
+use Rattle.outcomes.specs.declared.Outcome.the-variants.{Accepted, Refused}
 use Rattle.sheet.specs.declared.Parts.{Parts}
 use Rattle.sheet.specs.declared.Parts.the-variants.{Whole, Missing}
 use Rattle.sheet.specs.declared.Answer.{Answer}

@@ -1,7 +1,7 @@
 // Prints a row under a format, both from standard input: the text and its ends, or the refusal, to standard output. README.md has the layout.
 use libc::STDIN_FILENO;
 use libc::STDOUT_FILENO;
-use printing::Outcome;
+use outcomes::Outcome;
 ghost use mathlib.Core.Path.{_≡_};
 ghost use Prim.Native.Nat.{_≤_};
 ghost use lib.ListN.{length};

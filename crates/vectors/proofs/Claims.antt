@@ -9,12 +9,12 @@ use lib.Seq.{take-at, length-take-le}
 use Rattle.writing.specs.Laid.{laid}
 use Rattle.parsing.specs.Listed.{placed}
 use Rattle.rows.specs.Row.{kindsOf}
-use Rattle.printing.specs.Printing.{texts, printedText, endsFrom, printed, written}
-use Rattle.printing.specs.declared.Outcome.{Outcome}
-use Rattle.printing.specs.declared.Outcome.the-variants.{Accepted, Refused}
-use Rattle.printing.proofs.Accepted.{Accepts, fitted}
-use Rattle.printing.proofs.Joined.{ends-length}
-use Rattle.printing.proofs.Tallies.{texts-length}
+use Rattle.outcomes.specs.Printed.{texts, printedText, endsFrom, printed, written}
+use Rattle.outcomes.specs.declared.Outcome.{Outcome}
+use Rattle.outcomes.specs.declared.Outcome.the-variants.{Accepted, Refused}
+use Rattle.outcomes.proofs.Accepted.{Accepts, fitted}
+use Rattle.outcomes.proofs.Joined.{ends-length}
+use Rattle.outcomes.proofs.Texts.{texts-length}
 use Rattle.vectors.specs.Records.{between}
 use Rattle.vectors.specs.Prints.{fours, SameList, IsOutcome, RefusedAsSuch, IsRefusal, InRoom, IsLeft, Met}
 use Rattle.vectors.specs.declared.prints.Claim.the-variants.{Printed, AnyRefusal, Refusal}

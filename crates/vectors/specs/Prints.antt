@@ -5,9 +5,9 @@ use mathlib.Core.Bool.{Bool, true, false}
 use mathlib.Core.List.{List, [], _∷_, _++_}
 use lib.ListN.{length, getD, take}
 use Rattle.numerals.specs.LittleEndian.{wordAt}
-use Rattle.printing.specs.Printing.{texts, printedText, endsFrom, printed}
-use Rattle.printing.specs.declared.Outcome.{Outcome}
-use Rattle.printing.specs.declared.Outcome.the-variants.{Accepted, Refused}
+use Rattle.outcomes.specs.Printed.{texts, printedText, endsFrom, printed}
+use Rattle.outcomes.specs.declared.Outcome.{Outcome}
+use Rattle.outcomes.specs.declared.Outcome.the-variants.{Accepted, Refused}
 use Rattle.vectors.specs.Records.{between}
 use Rattle.vectors.specs.declared.prints.PrintRecord.{PrintRecord}
 use Rattle.vectors.specs.declared.prints.PrintRecord.the-variants as R

@@ -1,11 +1,11 @@
 // The lists of printed answers: each record's row is printed under its format, and the outcome, the text and the ends are compared with the record's own.
 use crate::Tally;
 use crate::Turn;
-use printing::Outcome;
+use outcomes::Outcome;
 ghost use mathlib.Core.Path.{_≡_};
 ghost use Prim.Native.Nat.{_+_, _*_, _-_, _≤_, _<_};
 ghost use lib.ListN.{length, getD};
-ghost use Rattle.printing.specs.declared.Outcome.the-variants.{Refused};
+ghost use Rattle.outcomes.specs.declared.Outcome.the-variants.{Refused};
 ghost use Rattle.vectors.specs.Records.{between, Onward};
 ghost use Rattle.vectors.specs.Prints.{fours, PrintRecordIs, ClaimAt, ClaimIs, SameList, IsRefusal, IsOutcome, InRoom, IsLeft, Met};
 

@@ -6,7 +6,7 @@ use lib.ListN.{length, length-take}
 use lib.Seq.{length-take-le}
 use native.Mathlib.Omega.{arith}
 use Rattle.writing.specs.Laid.{laid}
-use Rattle.printing.proofs.Accepted.{Fitted, fitted}
+use Rattle.outcomes.proofs.Accepted.{Fitted, fitted}
 use Rattle.panel.specs.Entries.{allBytes}
 use borrow.Author.Needs.{needs}
 use Rattle.panel.proofs.print_accepted.Statement.{statement}

@@ -8,7 +8,7 @@ use native.Mathlib.Omega.{arith}
 use Rattle.writing.specs.Laid.{laid}
 use Rattle.parsing.proofs.Cover.{few}
 use Rattle.rows.specs.Row.{kindsOf}
-use Rattle.printing.proofs.Accepted.{Fitted, fitted}
+use Rattle.outcomes.proofs.Accepted.{Fitted, fitted}
 use Rattle.panel.specs.Entries.{allBytes}
 use Rattle.panel.proofs.Slots.{filled-of, ends-of}
 use borrow.Author.Needs.{needs}

@@ -2,9 +2,9 @@
 use Prim.Native.Nat.{_/_}
 use mathlib.Core.Path.{_≡_, sym, ap, _∙_}
 use lib.ListN.{length}
-use Rattle.printing.specs.Printing.{texts, printedText, endsFrom, ifRoom, printed, written}
-use Rattle.printing.specs.declared.Outcome.{Outcome}
-use Rattle.printing.proofs.Accepted.{fitted}
+use Rattle.outcomes.specs.Printed.{texts, printedText, endsFrom, ifRoom, printed, written}
+use Rattle.outcomes.specs.declared.Outcome.{Outcome}
+use Rattle.outcomes.proofs.Accepted.{fitted}
 use Rattle.panel.specs.Entries.{allBytes}
 use Rattle.panel.proofs.Slots.{holds}
 use borrow.Author.Needs.{needs}

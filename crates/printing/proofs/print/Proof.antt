@@ -2,12 +2,13 @@
 use mathlib.Core.Path.{_≡_, sym, ap, subst, _∙_}
 use lib.ListN.{length}
 use native.Mathlib.Omega.{arith}
-use Rattle.printing.specs.Printing.{texts, printedText, endsFrom, ifRoom, printed, written}
+use Rattle.outcomes.specs.Printed.{texts, printedText, endsFrom, ifRoom, printed, written}
 use Rattle.printing.specs.Passes.{Filled}
-use Rattle.printing.specs.Demand.{Demanded}
-use Rattle.printing.specs.declared.Outcome.{Outcome}
-use Rattle.printing.proofs.Accepted.{Fitted, fitted, fitted-room}
-use Rattle.printing.proofs.Demand.{demand}
+use Rattle.outcomes.specs.Demand.{Demanded}
+use Rattle.outcomes.specs.declared.Outcome.{Outcome}
+use Rattle.outcomes.proofs.Accepted.{Fitted, fitted}
+use Rattle.printing.proofs.Behind.{fitted-room}
+use Rattle.outcomes.proofs.Demand.{demand}
 use borrow.Author.Needs.{needs}
 use Rattle.printing.proofs.print.Statement.{statement}
 use Rattle.printing.proofs.print.Tie as tie

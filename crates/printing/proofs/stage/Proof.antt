@@ -9,9 +9,9 @@ use Rattle.writing.specs.Choose.{choose}
 use Rattle.parsing.specs.Listed.{ended}
 use Rattle.rows.specs.Row.{countOf, kindsOf, isRow}
 use Rattle.rows.proofs.Rows.{row-shape, row-read, row-broken}
-use Rattle.printing.specs.Printing.{measuredEnd, measured}
+use Rattle.outcomes.specs.Printed.{measuredEnd, measured}
 use Rattle.printing.specs.Passes.{Passed}
-use Rattle.printing.specs.declared.Outcome.the-variants.{Refused}
+use Rattle.outcomes.specs.declared.Outcome.the-variants.{Refused}
 use Rattle.printing.proofs.Outcomes.{walk-measured}
 use borrow.Author.Needs.{needs}
 use Rattle.printing.proofs.stage.Statement.{statement}

@@ -6,10 +6,10 @@ use lib.ListN.{length, take, drop, length-drop}
 use lib.Seq.{take-all}
 use native.Mathlib.Omega.{arith}
 use Rattle.sheet.specs.Input.{lengthOf, formatOf, rowOf, partsOf, LieIn, answerOf, Fits}
-use Rattle.printing.specs.Printing.{texts, printedText, endsFrom, printed, written}
-use Rattle.printing.specs.declared.Outcome.{Outcome}
-use Rattle.printing.specs.declared.Outcome.the-variants.{Accepted, Refused}
-use Rattle.printing.proofs.Accepted.{fitted}
+use Rattle.outcomes.specs.Printed.{texts, printedText, endsFrom, printed, written}
+use Rattle.outcomes.specs.declared.Outcome.{Outcome}
+use Rattle.outcomes.specs.declared.Outcome.the-variants.{Accepted, Refused}
+use Rattle.outcomes.proofs.Accepted.{fitted}
 use Rattle.sheet.specs.declared.Answer.the-variants.{Given}
 use Rattle.sheet.specs.declared.Parts.the-variants.{Whole}
 use borrow.Author.Needs.{needs}

@@ -9,9 +9,9 @@ use Rattle.parsing.specs.declared.Piece.the-variants.{Fixed, Byte, Element as A
 use Rattle.rows.specs.Row.{kindsOf, kindByteOf, valueOf}
 use Rattle.pieces.specs.PieceTexts.{pieceText}
 use Rattle.columns.specs.Columns.{ReadsBack}
-use Rattle.printing.specs.Printing.{texts, joined}
-use Rattle.printing.specs.declared.Outcome.{Outcome}
-use Rattle.printing.specs.declared.Outcome.the-variants.{Accepted, Refused}
+use Rattle.outcomes.specs.Printed.{texts, joined}
+use Rattle.outcomes.specs.declared.Outcome.{Outcome}
+use Rattle.outcomes.specs.declared.Outcome.the-variants.{Accepted, Refused}
 
 -- "the end before (0 for the first)"
 abbrev pub endBefore : List ℕ → ℕ → ℕ

@@ -15,10 +15,9 @@ use Rattle.parsing.specs.Listed.{placed, ended}
 use Rattle.parsing.specs.declared.Ended.{Ended}
 use Rattle.parsing.specs.declared.Ended.the-variants.{Finished, Stopped}
 use Rattle.rows.specs.Row.{kindsOf, isRow}
-use Rattle.printing.specs.Printing.{printedText, Stop, firstStop, unlessStopped, measuredEnd, measured, ifRoom, printed}
-use Rattle.printing.specs.Passes.{Room}
-use Rattle.printing.specs.declared.Outcome.{Outcome}
-use Rattle.printing.specs.declared.Outcome.the-variants.{Accepted, Refused}
+use Rattle.outcomes.specs.Printed.{printedText, Stop, firstStop, unlessStopped, measuredEnd, measured, ifRoom, printed}
+use Rattle.outcomes.specs.declared.Outcome.{Outcome}
+use Rattle.outcomes.specs.declared.Outcome.the-variants.{Accepted, Refused}
 
 pub record Accepts (s row : List ℕ) (n k : ℕ) : Type 0 where
   pub kept : isRow row ≡ true
@@ -83,11 +82,3 @@ module _ (s row : List ℕ) (room slots : ℕ) where
   pub fitted : (n k : ℕ) → printed s row room slots ≡ Accepted n k → Fitted s row room slots n k
   unfolding printed
   fitted n k e = subst (Fits s row room slots) e (fits (measured s row) refl)
-
--- that 17 is excluded
-pub fitted-room : (s row d e : List ℕ) (n k : ℕ) → Fitted s row (length d) (length e) n k → Room s row d e
-fitted-room s row d e n k f = record {
-  bytes = omega (arith, f .accepts .total, f .bytes);
-  wide = omega (arith, f .accepts .total, f .wide);
-  slots = omega (arith, f .accepts .pieces, f .slots-enough);
-}

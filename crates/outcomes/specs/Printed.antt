@@ -14,8 +14,8 @@ use Rattle.parsing.specs.declared.Ended.{Ended}
 use Rattle.parsing.specs.declared.Ended.the-variants.{Finished, Stopped}
 use Rattle.rows.specs.Row.{kindsOf, isRow}
 use Rattle.pieces.specs.PieceTexts.{pieceText, pieceStop}
-use Rattle.printing.specs.declared.Outcome.{Outcome}
-use Rattle.printing.specs.declared.Outcome.the-variants.{Accepted, Refused}
+use Rattle.outcomes.specs.declared.Outcome.{Outcome}
+use Rattle.outcomes.specs.declared.Outcome.the-variants.{Accepted, Refused}
 
 -- The texts of the format's pieces, in their order.
 unfoldable pub textsOf : List ℕ → List ℕ → List Placed → List (List ℕ)

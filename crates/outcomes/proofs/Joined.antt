@@ -5,7 +5,7 @@ use Prim.Native.Nat.{ℕ, zero, suc, _+_, _≤_, _<_}
 use native.Mathlib.Omega.{arith}
 use lib.ListN.{length, getD, take, drop, length-append}
 use lib.Seq.{take-append-seam, drop-append-add}
-use Rattle.printing.specs.Printing.{joined, endsFrom}
+use Rattle.outcomes.specs.Printed.{joined, endsFrom}
 
 -- the next of a list: where it is, and the lists taken up to it
 module _ {A : Type 0} where

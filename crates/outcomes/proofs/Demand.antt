@@ -16,12 +16,12 @@ use Rattle.rows.specs.Row.{kindsOf, namedText, isRow}
 use Rattle.rows.proofs.Rows.{AllBytes, kinds-length}
 use Rattle.columns.proofs.Columns.{reads-back}
 use Rattle.pieces.specs.PieceTexts.{shownPiece, pieceText, pieceStop}
-use Rattle.printing.specs.Printing.{texts, joined, printedText, endsFrom}
-use Rattle.printing.specs.Demand.{endBefore, cutOut, pieceOf, DenotesValue, Demand3}
-use Rattle.printing.proofs.Joined.{ends-length, nth-end, nth-text, between}
-use Rattle.printing.proofs.Reached.{all-inside}
-use Rattle.printing.proofs.Tallies.{texts-length, texts-nth, no-stop}
-use Rattle.printing.proofs.Accepted.{Accepts}
+use Rattle.outcomes.specs.Printed.{texts, joined, printedText, endsFrom}
+use Rattle.outcomes.specs.Demand.{endBefore, cutOut, pieceOf, DenotesValue, Demand3}
+use Rattle.outcomes.proofs.Joined.{ends-length, nth-end, nth-text, between}
+use Rattle.parsing.proofs.Sound.{all-inside}
+use Rattle.outcomes.proofs.Texts.{texts-length, texts-nth, no-stop}
+use Rattle.outcomes.proofs.Accepted.{Accepts}
 
 -- a piece that is printed, read back
 module _ (s row : List ℕ) (kept : isRow row ≡ true) (bytes : AllBytes row) where

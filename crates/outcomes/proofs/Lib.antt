@@ -1,0 +1,4 @@
+pub mod Joined
+pub mod Texts
+pub mod Accepted
+pub mod Demand
