@@ -21,7 +21,8 @@ use Rattle.specifiers.specs.declared.Flags.{Flags}
 use Rattle.specifiers.specs.declared.Element.{Element}
 use Rattle.elements.specs.Texts.{floatText}
 use Rattle.numbers.specs.Numbers.{widthOf, fill, hexPrefix, floatMark, finiteText}
-use Rattle.columns.specs.Columns.{floatLetter, FloatRead, FiniteRead}
+use Rattle.columns.specs.Columns.{FloatRead}
+use Rattle.columns.proofs.Forms.{floatLetter, FiniteRead}
 use Rattle.columns.proofs.Frames.{padded-read, sign-mark}
 
 -- the prefix that is printed is the one that is read

@@ -30,7 +30,7 @@ use Rattle.specifiers.specs.declared.Flags.{Flags}
 use Rattle.specifiers.specs.declared.Element.{Element}
 use Rattle.rows.specs.Row.{holds}
 use Rattle.numbers.specs.Numbers.{widthOf, fill, integerMark, commas, ifAlternate, hexPrefix, paddedNumber, numeralText}
-use Rattle.columns.specs.Columns.{numeralLetter, NumeralRead}
+use Rattle.columns.proofs.Forms.{numeralLetter, NumeralRead}
 use Rattle.columns.proofs.Frames.{padded-read, sign-mark}
 
 -- A value within the kind is an integer of its width.

@@ -1,27 +1,56 @@
--- The letter that the reading rule is fed is the one by which a format names the conversion. Assumes nothing.
-use mathlib.Core.Path.{_≡_, refl}
-use mathlib.Core.Bool.{true, false}
+-- The letter that stands in a format says in which form a value is printed. Assumes nothing.
+use Prim.Native.Nat.{ℕ}
+use Prim.Native.Char.{code}
+use mathlib.Core.Path.{_≡_, refl, sym, _∙_}
+use mathlib.Core.Bool.{Bool, true, false, _||_}
+use mathlib.Core.List.{List, [], _∷_}
+use lib.Dec.{eqb}
+use borrow.Author.Tests.{eqb-true}
+use Rattle.writing.specs.Text.{has}
 use Rattle.conversions.specs.Letters.{smallOf, capitalOf}
+use Rattle.conversions.specs.declared.ConversionType.{ConversionType}
 use Rattle.conversions.specs.declared.ConversionType.the-variants.{Integer, HexFloat}
-use Rattle.conversions.specs.declared.Radix.{Radix}
 use Rattle.conversions.specs.declared.Radix.the-variants as R
-use Rattle.conversions.specs.declared.Letter.the-variants.{Conversion}
-use Rattle.columns.specs.Columns.{numeralLetter, floatLetter}
+use Rattle.specifiers.specs.Specifier.{letterFrom}
+use Rattle.specifiers.specs.declared.LetterTaken.the-variants as L
 
-pub small-numeral : (r : Radix) → smallOf (numeralLetter r false) ≡ Conversion (Integer r)
-unfolding smallOf
-small-numeral R.Decimal = refl
-small-numeral R.Octal = refl
-small-numeral R.Hexadecimal = refl
+-- That a letter names a conversion, in capitals or not.
+abbrev pub NamedBy : ℕ → ConversionType → Bool → Type 0
+NamedBy letter c u = letterFrom (letter ∷ []) 0 ≡ L.Read c u 1
 
-pub capital-numeral : capitalOf (numeralLetter R.Hexadecimal true) ≡ Conversion (Integer R.Hexadecimal)
-unfolding capitalOf
-capital-numeral = refl
+-- one of the bytes of a text
+pub among : (P : ℕ → Type 0) (b : ℕ) (bs : List ℕ) (x : ℕ) → (b ≡ x → P x) → (has bs x ≡ true → P x) → has (b ∷ bs) x ≡ true → P x
+unfolding has
+among P b bs x f g = go (eqb b x) refl
+  where
+    go : (t : Bool) → eqb b x ≡ t → (t || has bs x) ≡ true → P x
+    go true e h = f (eqb-true b x e)
+    go false e h = g h
 
-pub small-float : smallOf (floatLetter false) ≡ Conversion HexFloat
-unfolding smallOf
-small-float = refl
+module _ {c : ConversionType} {u : Bool} where
+  named : (letter : ℕ) (d : ConversionType) (v : Bool) → NamedBy letter c u → letterFrom (letter ∷ []) 0 ≡ L.Read d v 1 → (c ≡ d) × (u ≡ v)
+  named letter d v e read = let q = sym e ∙ read in (cc, cc)
 
-pub capital-float : capitalOf (floatLetter true) ≡ Conversion HexFloat
-unfolding capitalOf
-capital-float = refl
+  pub is-decimal : NamedBy (code "d") c u → (c ≡ Integer R.Decimal) × (u ≡ false)
+  unfolding smallOf
+  is-decimal n = named (code "d") (Integer R.Decimal) false n refl
+
+  pub is-octal : NamedBy (code "o") c u → (c ≡ Integer R.Octal) × (u ≡ false)
+  unfolding smallOf
+  is-octal n = named (code "o") (Integer R.Octal) false n refl
+
+  pub is-hex : NamedBy (code "x") c u → (c ≡ Integer R.Hexadecimal) × (u ≡ false)
+  unfolding smallOf
+  is-hex n = named (code "x") (Integer R.Hexadecimal) false n refl
+
+  pub is-upper-hex : NamedBy (code "X") c u → (c ≡ Integer R.Hexadecimal) × (u ≡ true)
+  unfolding smallOf capitalOf
+  is-upper-hex n = named (code "X") (Integer R.Hexadecimal) true n refl
+
+  pub is-float : NamedBy (code "a") c u → (c ≡ HexFloat) × (u ≡ false)
+  unfolding smallOf
+  is-float n = named (code "a") HexFloat false n refl
+
+  pub is-upper-float : NamedBy (code "A") c u → (c ≡ HexFloat) × (u ≡ true)
+  unfolding smallOf capitalOf
+  is-upper-float n = named (code "A") HexFloat true n refl

@@ -1,3 +1,4 @@
+mod Forms
 pub mod Letters
 mod Frames
 mod Integers

@@ -1,42 +1,19 @@
 -- What demand 3 says of the piece of one element, read back. 01, "Reading a piece back" and "What demand 3 compares".
-use Prim.Native.Nat.{ℕ}
+use Prim.Native.Nat.{ℕ, _%_}
 use Prim.Native.Char.{code}
 use mathlib.Core.Path.{_≡_}
-use mathlib.Core.Bool.{Bool, true, false}
+use mathlib.Core.Bool.{true, false}
 use mathlib.Core.List.{List}
-use lib.IntN.{ℤ}
-use Rattle.writing.specs.Choose.{choose}
+use Rattle.writing.specs.Text.{ascii, has}
 use Rattle.numerals.specs.Integers.{intOf, bitsOf}
 use Rattle.params.specs.declared.NumericParam.{NumericParam}
 use Rattle.binary64.specs.Fields.{categoryOf}
-use Rattle.binary64.specs.declared.FpCategory.{FpCategory}
-use Rattle.binary64.specs.declared.FpCategory.the-variants as C
+use Rattle.binary64.specs.declared.FpCategory.the-variants.{Finite}
 use Rattle.reading.specs.Reading.{Scaled, Reading, Integer, Bits, Float, readPiece}
 use Rattle.reading.specs.Nearness.{Denotes}
-use Rattle.conversions.specs.Kinds.{printsAs}
-use Rattle.conversions.specs.declared.Radix.{Radix}
-use Rattle.conversions.specs.declared.Radix.the-variants as R
-use Rattle.conversions.specs.declared.IntegerForm.{IntegerForm}
-use Rattle.conversions.specs.declared.IntegerForm.the-variants.{Numeral, Scalar, Digits}
-use Rattle.conversions.specs.declared.Form.{Form}
-use Rattle.conversions.specs.declared.Form.the-variants as F
-use Rattle.specifiers.specs.declared.Element.{Element}
+use Rattle.conversions.specs.Letters.{lookup}
+use Rattle.conversions.specs.Kinds.{integerKinds}
 use Rattle.rows.specs.Row.{isNull}
-
--- The element's letter, which "the rule is fed": d, o, x or X, and a or A.
-abbrev pub numeralLetter : Radix → Bool → ℕ
-numeralLetter R.Decimal upper = code "d"
-numeralLetter R.Octal upper = code "o"
-numeralLetter R.Hexadecimal upper = choose upper (λ _. code "X") (λ _. code "x")
-
-abbrev pub floatLetter : Bool → ℕ
-floatLetter upper = choose upper (λ _. code "A") (λ _. code "a")
-
--- An integer z of w bits: %d gives "the integer", %x, %X and %o its two's complement bits, "the integer, plus 2 to the kind's width where negative".
-abbrev pub NumeralRead : Radix → ℕ → ℤ → Reading → Type 0
-NumeralRead R.Decimal w z r = r ≡ Integer z
-NumeralRead R.Octal w z r = r ≡ Bits (bitsOf w z)
-NumeralRead R.Hexadecimal w z r = r ≡ Bits (bitsOf w z)
 
 -- A number with a power of two was read, and it denotes the finite value with the bits b as demand 3 says for the precision p.
 pub record FloatRead (b : ℕ) (p : NumericParam) (r : Reading) : Type 0 where
@@ -44,26 +21,16 @@ pub record FloatRead (b : ℕ) (p : NumericParam) (r : Reading) : Type 0 where
   pub read : r ≡ Float number
   pub denotes : Denotes b p number
 
--- %a and %A of a float: a NaN and an infinity have no number to read.
-abbrev pub FiniteRead : FpCategory → ℕ → NumericParam → Reading → Type 0
-FiniteRead C.Nan b p r = Unit {0}
-FiniteRead C.Infinite b p r = Unit {0}
-FiniteRead C.Finite b p r = FloatRead b p r
+-- The width of an integer's kind byte; of any other kind it is not asked.
+unfoldable pub bitsIn : ℕ → ℕ
+bitsIn k = lookup (λ b. b) (λ w. w) 0 integerKinds (k % 128)
 
--- The bytes t of an integer that is not null, and of any value in its form; what is neither a numeral nor a float is not read back.
-abbrev pub IntegerRead : Element → IntegerForm → ℕ → ℕ → List ℕ → Type 0
-IntegerRead e (Numeral r) w v t = NumeralRead r w (intOf 64 v) (readPiece (numeralLetter r (e .upper)) t)
-IntegerRead e Scalar w v t = Unit {0}
-IntegerRead e Digits w v t = Unit {0}
-
-abbrev pub ValueRead : Element → Form → Bool → ℕ → List ℕ → Type 0
-ValueRead e (F.Integer f w) false v t = IntegerRead e f w v t
-ValueRead e (F.Integer f w) true v t = Unit {0}
-ValueRead e F.HexFloat null v t = FiniteRead (categoryOf v) v (e .precision) (readPiece (floatLetter (e .upper)) t)
-ValueRead e F.Boolean null v t = Unit {0}
-ValueRead e F.Text null v t = Unit {0}
-ValueRead e F.NotPrinted null v t = Unit {0}
-
--- "The rule is fed the piece's bytes and the element's letter, nothing else": that the bytes t, read so, denote the value v with the kind byte k.
-unfoldable pub ReadsBack : Element → ℕ → ℕ → List ℕ → Type 0
-ReadsBack e k v t = ValueRead e (printsAs (e .conversion) k) (isNull k) v t
+-- "The rule is fed the piece's bytes and the element's letter, nothing else": what the bytes t, read so, say of the value v with the kind byte k. Null has no
+-- number to read, nor has a NaN or an infinity; p is the element's precision, by which a float is exact or nearest.
+pub record ReadsBack (letter k v : ℕ) (p : NumericParam) (t : List ℕ) : Type 0 where
+  -- %d is "the integer"
+  pub integer : letter ≡ code "d" → isNull k ≡ false → readPiece letter t ≡ Integer (intOf 64 v)
+  -- %x, %X and %o: "Two's complement bits are the integer, plus 2 to the kind's width where negative."
+  pub bits : has (ascii "xXo") letter ≡ true → isNull k ≡ false → readPiece letter t ≡ Bits (bitsOf (bitsIn k) (intOf 64 v))
+  -- %a and %A of a finite value
+  pub float : has (ascii "aA") letter ≡ true → categoryOf v ≡ Finite → FloatRead v p (readPiece letter t)

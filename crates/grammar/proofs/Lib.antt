@@ -1,6 +1,6 @@
 mod Runs
 mod Clashes
-mod Letters
+pub mod Letters
 mod Places
 mod Choices
 mod Sections
@@ -8,3 +8,4 @@ pub mod Steps
 mod Found
 mod Total
 pub mod Readings
+pub mod Listed

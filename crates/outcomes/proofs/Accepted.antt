@@ -21,6 +21,7 @@ use Rattle.outcomes.specs.declared.Outcome.the-variants.{Accepted, Refus
 
 pub record Accepts (s row : List ℕ) (n k : ℕ) : Type 0 where
   pub kept : isRow row ≡ true
+  pub finished : ended s (kindsOf row) ≡ Finished
   pub total : n ≡ length (printedText s row)
   pub pieces : k ≡ length (placed s (kindsOf row))
   pub unstopped : firstStop s row (placed s (kindsOf row)) ≡ none
@@ -30,22 +31,22 @@ Says s row (Accepted n k) = Accepts s row n k
 Says s row (Refused number place) = Unit {0}
 
 module _ (s row : List ℕ) where
-  says-end : isRow row ≡ true → (x : Ended) → Says s row (measuredEnd s row x)
+  says-end : isRow row ≡ true → (x : Ended) → ended s (kindsOf row) ≡ x → Says s row (measuredEnd s row x)
   unfolding measuredEnd
-  says-end r Finished = go (firstStop s row (placed s (kindsOf row))) refl
+  says-end r Finished end = go (firstStop s row (placed s (kindsOf row))) refl
     where
       go : (x : Option Stop) → firstStop s row (placed s (kindsOf row)) ≡ x
           → Says s row (unlessStopped x (Accepted (length (printedText s row)) (length (placed s (kindsOf row)))))
-      go none q = record { kept = r; total = refl; pieces = refl; unstopped = q }
+      go none q = record { kept = r; finished = end; total = refl; pieces = refl; unstopped = q }
       go (some t) q = tt
-  says-end r (Stopped number place) = tt
+  says-end r (Stopped number place) end = tt
 
   says : Says s row (measured s row)
   unfolding measured
   says =
       by-test (Says s row) (ltb mostFormat (length s)) _ _ (λ _. tt)
       (λ _. by-test (Says s row) (wellFormed s) _ _
-      (λ _. by-test (Says s row) (isRow row) _ _ (λ r. says-end r (ended s (kindsOf row))) (λ _. tt)) (λ _. tt))
+      (λ _. by-test (Says s row) (isRow row) _ _ (λ r. says-end r (ended s (kindsOf row)) refl) (λ _. tt)) (λ _. tt))
 
   accepted : (n k : ℕ) → measured s row ≡ Accepted n k → Accepts s row n k
   accepted n k e = subst (Says s row) e says

@@ -1,6 +1,6 @@
 -- Demand 3, whole, of an output and ends over whose starts the text and its ends are laid. Assumes nothing.
 use mathlib.Core.Path.{_≡_, refl, sym, ap, subst, _∙_}
-use mathlib.Core.Bool.{true}
+use mathlib.Core.Bool.{true, false}
 use mathlib.Core.List.{List, [], _++_}
 use mathlib.Core.Option.{none}
 use Prim.Native.Nat.{ℕ, zero, suc, _+_, _-_, _≤_, _<_}
@@ -15,23 +15,30 @@ use Rattle.parsing.specs.declared.Piece.the-variants.{Fixed, Byte, Element as A
 use Rattle.rows.specs.Row.{kindsOf, namedText, isRow}
 use Rattle.rows.proofs.Rows.{AllBytes, kinds-length}
 use Rattle.columns.proofs.Columns.{reads-back}
+use Rattle.columns.proofs.Letters.{NamedBy}
 use Rattle.pieces.specs.PieceTexts.{shownPiece, pieceText, pieceStop}
 use Rattle.outcomes.specs.Printed.{texts, joined, printedText, endsFrom}
-use Rattle.outcomes.specs.Demand.{endBefore, cutOut, pieceOf, DenotesValue, Demand3}
+use Rattle.outcomes.specs.Demand.{endBefore, cutOut, pieceOf, isTime, DenotesValue, Demand3}
 use Rattle.outcomes.proofs.Joined.{ends-length, nth-end, nth-text, between}
+use Rattle.parsing.proofs.Cover.{cover}
 use Rattle.parsing.proofs.Sound.{all-inside}
+use Rattle.specifiers.specs.declared.Element.{Element}
+use Rattle.outcomes.proofs.Letters.{row-kinds, letter-in}
 use Rattle.outcomes.proofs.Texts.{texts-length, texts-nth, no-stop}
 use Rattle.outcomes.proofs.Accepted.{Accepts}
 
--- a piece that is printed, read back
-module _ (s row : List ℕ) (kept : isRow row ≡ true) (bytes : AllBytes row) where
-  piece-reads : (p : Piece) → PieceIn s (kindsOf row) p → pieceStop s row p ≡ none → DenotesValue row p (pieceText s row p)
+-- a piece that is printed, read back by the letter before its end
+module _ (s row : List ℕ) (kept : isRow row ≡ true) (bytes : AllBytes row) (to : ℕ) where
+  piece-reads : (p : Piece) → PieceIn s (kindsOf row) p → pieceStop s row p ≡ none
+      → ((e : Element) → p ≡ AnElement e → isTime (e .conversion) ≡ false → NamedBy (getD s (to - 1) 0) (e .conversion) (e .upper))
+      → DenotesValue s row to p (pieceText s row p)
   unfolding shownPiece
-  piece-reads (Fixed begin len) i e = tt
-  piece-reads (Byte b) i e = tt
-  piece-reads (AnElement x) i e =
+  piece-reads (Fixed begin len) i e letter = tt
+  piece-reads (Byte b) i e letter = tt
+  piece-reads (AnElement x) i e letter = λ n.
       let few = kinds-length row kept in
-      reads-back row bytes x (record { kept = kept; first = i .0; last = omega (arith, i .1) }) (namedText row (x .argument)) e
+      reads-back row bytes x (record { kept = kept; first = i .0; last = omega (arith, i .1) }) (namedText row (x .argument)) e (getD s (to - 1) 0)
+      (letter x refl n)
 
 module _ (s row : List ℕ) (n k : ℕ) (ok : Accepts s row n k) (d e : List ℕ) where
   as-many : k ≡ length (texts s row)
@@ -58,11 +65,11 @@ module _ (s row : List ℕ) (n k : ℕ) (ok : Accepts s row n k) (d e : List ℕ
   blank : Placed
   blank = record { piece = Fixed 0 0; from = 0; to = 0 }
 
-  nth : (i : ℕ) → i < k → getD (texts s row) i [] ≡ pieceText s row (pieceOf s row i)
+  nth : (i : ℕ) → i < k → getD (texts s row) i [] ≡ pieceText s row (pieceOf s row i .piece)
   unfolding texts blank
   nth i h = texts-nth s row (placed s (kindsOf row)) i blank (omega (arith, ok .pieces))
 
-  text-of : (i : ℕ) → i < k → cutOut (laid d (printedText s row)) (laid e (endsFrom 0 (texts s row))) i ≡ pieceText s row (pieceOf s row i)
+  text-of : (i : ℕ) → i < k → cutOut (laid d (printedText s row)) (laid e (endsFrom 0 (texts s row))) i ≡ pieceText s row (pieceOf s row i .piece)
   unfolding laid printedText
   text-of i h =
       let l = texts s row in
@@ -88,21 +95,24 @@ module _ (s row : List ℕ) (n k : ℕ) (ok : Accepts s row n k) (d e : List ℕ
   unfolding laid printedText
   whole-text = take-at (joined (texts s row)) (drop (length (joined (texts s row))) d) n (sym (ok .total))
 
-  reads : AllBytes row → (i : ℕ) → i < k → DenotesValue row (pieceOf s row i) (pieceText s row (pieceOf s row i))
+  reads : AllBytes row → (i : ℕ) → i < k
+      → DenotesValue s row (pieceOf s row i .to) (pieceOf s row i .piece) (pieceText s row (pieceOf s row i .piece))
   unfolding blank
   reads bytes i h =
-      let j : i < length (placed s (kindsOf row)) = omega (arith, ok .pieces) in
-      piece-reads s row (ok .kept) bytes (pieceOf s row i) (all-inside s (kindsOf row) i blank j)
-      (no-stop s row (placed s (kindsOf row)) i blank (ok .unstopped) j)
+      let ks = kindsOf row in
+      let j : i < length (placed s ks) = omega (arith, ok .pieces) in
+      piece-reads s row (ok .kept) bytes (pieceOf s row i .to) (pieceOf s row i .piece) (all-inside s ks i blank j)
+      (no-stop s row (placed s ks) i blank (ok .unstopped) j) (letter-in s ks (row-kinds row (ok .kept)) (ok .finished) i blank j)
 
   over-starts : AllBytes row → Demand3 s row n k (laid d (printedText s row)) (laid e (endsFrom 0 (texts s row)))
   over-starts bytes = record {
+    cover = cover s (kindsOf row) (ok .finished);
     count = ok .pieces;
     sums = end-of;
     total = last-end;
     whole = whole-text;
     cuts = text-of;
-    columns = λ i h. subst (DenotesValue row (pieceOf s row i)) (sym (text-of i h)) (reads bytes i h);
+    columns = λ i h. subst (DenotesValue s row (pieceOf s row i .to) (pieceOf s row i .piece)) (sym (text-of i h)) (reads bytes i h);
   }
 
   -- Demand 3, of every format and row that print.

@@ -1,4 +1,5 @@
 pub mod Joined
 pub mod Texts
 pub mod Accepted
+pub mod Letters
 pub mod Demand

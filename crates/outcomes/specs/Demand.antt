@@ -1,9 +1,13 @@
 -- Demand 3, whole: one claim over a format and a row, of the bytes and ends that printing leaves. 01, "What demand 3 compares".
 use Prim.Native.Nat.{ℕ, zero, suc, _-_, _<_}
 use mathlib.Core.Path.{_≡_}
+use mathlib.Core.Bool.{Bool, true, false}
 use mathlib.Core.List.{List}
 use lib.ListN.{length, getD, take, drop}
-use Rattle.parsing.specs.Listed.{placed}
+use Rattle.conversions.specs.declared.ConversionType.{ConversionType}
+use Rattle.conversions.specs.declared.ConversionType.the-variants as C
+use Rattle.parsing.specs.Covers.{Covers}
+use Rattle.parsing.specs.Listed.{Placed, placed}
 use Rattle.parsing.specs.declared.Piece.{Piece}
 use Rattle.parsing.specs.declared.Piece.the-variants.{Fixed, Byte, Element as AnElement}
 use Rattle.rows.specs.Row.{kindsOf, kindByteOf, valueOf}
@@ -23,18 +27,31 @@ abbrev pub cutOut : List ℕ → List ℕ → ℕ → List ℕ
 cutOut out ends k = take (getD ends k 0 - endBefore ends k) (drop (endBefore ends k) out)
 
 -- The k-th piece of a format. (Behind the last, which is never asked for, stands an empty text.)
-abbrev pub pieceOf : List ℕ → List ℕ → ℕ → Piece
-pieceOf s row k = getD (placed s (kindsOf row)) k (record { piece = Fixed 0 0; from = 0; to = 0 }) .piece
+abbrev pub pieceOf : List ℕ → List ℕ → ℕ → Placed
+pieceOf s row k = getD (placed s (kindsOf row)) k (record { piece = Fixed 0 0; from = 0; to = 0 })
 
--- What demand 3 says of one piece: read by the reading rule, it denotes the value of the row under the argument that the element takes.
-abbrev pub DenotesValue : List ℕ → Piece → List ℕ → Type 0
-DenotesValue row (Fixed begin len) bytes = Unit {0}
-DenotesValue row (Byte b) bytes = Unit {0}
-DenotesValue row (AnElement e) bytes = ReadsBack e (kindByteOf row (e .argument)) (valueOf row (e .argument)) bytes
+-- What demand 3 says of one piece, which ends at the place `to` of the format: read by the reading rule, it denotes the value of the row under the argument that
+-- the element takes. "The rule is fed the piece's bytes and the element's letter": the byte before the element's end, but for t and T, which are not read.
+abbrev pub isTime : ConversionType → Bool
+isTime C.Boolean = false
+isTime C.HexHash = false
+isTime C.String = false
+isTime C.Char = false
+isTime (C.Integer r) = false
+isTime C.DecimalFloat = false
+isTime C.HexFloat = false
+isTime (C.Time t) = true
+
+abbrev pub DenotesValue : List ℕ → List ℕ → ℕ → Piece → List ℕ → Type 0
+DenotesValue s row to (Fixed begin len) bytes = Unit {0}
+DenotesValue s row to (Byte b) bytes = Unit {0}
+DenotesValue s row to (AnElement e) bytes =
+    isTime (e .conversion) ≡ false → ReadsBack (getD s (to - 1) 0) (kindByteOf row (e .argument)) (valueOf row (e .argument)) (e .precision) bytes
 
 -- Of a format s and a row, the length n and count k returned, and the output and ends left.
 pub record Demand3 (s row : List ℕ) (n k : ℕ) (out ends : List ℕ) : Type 0 where
-  -- as many as the format's pieces
+  -- the pieces cover the format from its first byte to its last, and are as many as are counted
+  pub cover : Covers 0 (length s) (placed s (kindsOf row))
   pub count : k ≡ length (placed s (kindsOf row))
   -- "The k-th end is the length of the first k texts together"
   pub sums : (i : ℕ) → i < k → getD ends i 0 ≡ length (joined (take (suc i) (texts s row)))
@@ -43,9 +60,9 @@ pub record Demand3 (s row : List ℕ) (n k : ℕ) (out ends : List ℕ) : Type 0
   -- the pieces joined are the text
   pub whole : take n out ≡ joined (texts s row)
   -- "the output's bytes from the end before (0 for the first) to the k-th are piece k and equal its text"
-  pub cuts : (i : ℕ) → i < k → cutOut out ends i ≡ pieceText s row (pieceOf s row i)
+  pub cuts : (i : ℕ) → i < k → cutOut out ends i ≡ pieceText s row (pieceOf s row i .piece)
   -- every column, wherever it stands, read from its bytes and its letter alone
-  pub columns : (i : ℕ) → i < k → DenotesValue row (pieceOf s row i) (cutOut out ends i)
+  pub columns : (i : ℕ) → i < k → DenotesValue s row (pieceOf s row i .to) (pieceOf s row i .piece) (cutOut out ends i)
 
 -- "A format and row print where nothing stops the call."
 abbrev pub Demanded : List ℕ → List ℕ → Outcome → List ℕ → List ℕ → Type 0

@@ -1,4 +1,4 @@
--- For laws alone: what they say of the pieces of a format. No contract of an entry speaks of these.
+-- What is said of the pieces of a format. (`PieceIn` is for laws alone.)
 use Prim.Native.Nat.{ℕ, _+_, _≤_, _<_}
 use mathlib.Core.Path.{_≡_}
 use mathlib.Core.List.{List, [], _∷_}

@@ -1,0 +1,124 @@
+-- The kinds of a row are known, and the letter of a listed element stands before its end in the format. Assumes nothing.
+use mathlib.Core.Path.{_≡_, refl, sym, ap, subst, _∙_}
+use mathlib.Core.Bool.{Bool, true, false, _||_}
+use mathlib.Core.List.{List, [], _∷_, _++_, append-assoc, append-nil}
+use Prim.Native.Nat.{ℕ, suc, _+_, _-_, _%_, _≤_, _<_}
+use Prim.Native.Char.{code}
+use native.Mathlib.Omega.{arith}
+use lib.Dec.{eqb}
+use lib.ListN.{length, getD, length-append}
+use lib.Seq.{getD-at}
+use Rattle.writing.specs.Choose.{choose}
+use Rattle.writing.specs.Text.{has}
+use Rattle.writing.proofs.Choose.{by-test}
+use Rattle.conversions.specs.Letters.{timeOf, smallOf, capitalOf}
+use Rattle.conversions.specs.Kinds.{kindOf}
+use Rattle.conversions.specs.declared.ConversionType.{ConversionType}
+use Rattle.conversions.specs.declared.KindByte.{KindByte}
+use Rattle.conversions.specs.declared.KindByte.the-variants.{Known, Unknown}
+use Rattle.conversions.specs.declared.Letter.{Letter}
+use Rattle.conversions.specs.declared.Letter.the-variants.{Conversion, NoConversion}
+use Rattle.conversions.specs.declared.TimeLetter.{TimeLetter}
+use Rattle.conversions.specs.declared.TimeLetter.the-variants.{Component, NoComponent}
+use Rattle.specifiers.specs.Specifier.{capitalTaken, oneLetter, timeLetter, secondLetter, letterFrom}
+use Rattle.specifiers.specs.declared.Element.{Element}
+use Rattle.specifiers.specs.declared.LetterTaken.{LetterTaken}
+use Rattle.specifiers.specs.declared.LetterTaken.the-variants as L
+use Rattle.parsing.specs.Check.{isKnown}
+use Rattle.parsing.specs.Listed.{Placed, placed, ended}
+use Rattle.parsing.specs.declared.Ended.the-variants.{Finished}
+use Rattle.parsing.specs.declared.Piece.{Piece}
+use Rattle.parsing.specs.declared.Piece.the-variants.{Fixed, Byte, Element as AnElement}
+use Rattle.grammar.specs.Parts.{Written, choiceBytes, precisionBytes, Part, element, elementBytes, bytesOf, allBytes}
+use Rattle.grammar.specs.Elements.{kindAt}
+use Rattle.grammar.specs.Pieces.{ElementIs, PieceIs}
+use Rattle.grammar.specs.Pieces as Q
+use Rattle.grammar.proofs.Letters.{kinds, known-kind}
+use Rattle.grammar.proofs.Listed.{IsPart, nth-part}
+use Rattle.grammar.proofs.Readings.{Made, parts-of, read-whole, reads-bytes}
+use Rattle.grammar.proofs.Steps.{KindsKnown}
+use Rattle.rows.specs.Row.{countOf, kindsOf, kindByteOf, valueOf, textArea, isNull, entryOf, entryAt, isRow}
+use Rattle.rows.proofs.Rows.{kinds-length, kind-byte, entry}
+use Rattle.columns.proofs.Letters.{NamedBy}
+use Rattle.outcomes.specs.Demand.{isTime}
+
+never : false ≡ true → ⊥
+never e = let z : _≡_ {A = ℕ} 0 1 = cc in omega arith
+
+-- every entry of a row has a kind
+entry-known : (b : KindByte) (null : Bool) (text : List ℕ) (v : ℕ) → entryOf b null text v ≡ true → isKnown b ≡ true
+entry-known (Known k) null text v e = refl
+entry-known Unknown null text v e = absurd (never e)
+
+pub row-kinds : (row : List ℕ) → isRow row ≡ true → KindsKnown (kindsOf row)
+unfolding entryAt
+row-kinds row kept a h i =
+    let few : a ≤ countOf row = omega (arith, kinds-length row kept) in
+    let q = entry-known (kindOf (kindByteOf row a % 128)) (isNull (kindByteOf row a)) (textArea row) (valueOf row a) (entry row kept a h few) in
+    ap (λ (k : ℕ). has kinds (k % 128)) (kind-byte row a h few) ∙ known-kind (kindByteOf row a % 128) q
+
+-- a letter of one byte, read; what takes two is t or T
+module _ (c : ConversionType) (u : Bool) where
+  single : (x y : Letter) (at n : ℕ) → oneLetter x y at ≡ L.Read c u n → n ≡ at + 1
+  single (Conversion d) y at n e = let q : at + 1 ≡ n = cc in sym q
+  single NoConversion (Conversion d) at n e = let q : at + 1 ≡ n = cc in sym q
+  single NoConversion NoConversion at n e = absurd (let z : _≡_ {A = ℕ} 0 1 = cc in omega arith)
+
+  double : (v : Bool) (x : TimeLetter) (at n : ℕ) → timeLetter v x at ≡ L.Read c u n → (isTime c ≡ true) × (n ≡ at + 2)
+  double v (Component d) at n e = let q : at + 2 ≡ n = cc in let r = e in (cc, sym q)
+  double v NoComponent at n e = absurd (let z : _≡_ {A = ℕ} 0 1 = cc in omega arith)
+
+  -- that the letter x is one byte b, by which the conversion is named
+  record Single (x : List ℕ) : Type 0 where
+    b : ℕ
+    is : x ≡ b ∷ []
+    names : NamedBy b c u
+
+  one-byte : (x : List ℕ) → letterFrom x 0 ≡ L.Read c u (length x) → isTime c ≡ false → Single x
+  one-byte [] e n = absurd (let z : _≡_ {A = ℕ} 0 1 = cc in omega arith)
+  one-byte (b ∷ []) e n = record { b = b; is = refl; names = e }
+  one-byte (b ∷ d ∷ more) e n = absurd (go (eqb b (code "t")) (eqb b (code "T")) e)
+    where
+      go : (p q : Bool)
+          → choose p (λ _. secondLetter false (d ∷ more) 0) (λ _. choose q (λ _. secondLetter true (d ∷ more) 0) (λ _. oneLetter (smallOf b) (capitalOf b) 0))
+          ≡ L.Read c u (length (b ∷ d ∷ more)) → ⊥
+      go true q e = never (sym n ∙ double false (timeOf d) 0 _ e .0)
+      go false true e = never (sym n ∙ double true (timeOf d) 0 _ e .0)
+      go false false e = let k = single (smallOf b) (capitalOf b) 0 _ e in omega arith
+
+-- an element's last byte is the last of its letter
+last-byte : (w : Written) (b : ℕ) → w .letter ≡ b ∷ [] → (front tail : List ℕ)
+    → getD ((front ++ elementBytes w) ++ tail) (length (front ++ elementBytes w) - 1) 0 ≡ b
+last-byte w b e front tail =
+    let head = front ++ (code "%" ∷ (choiceBytes (w .choice) ++ (w .flags ++ (w .width ++ precisionBytes (w .precision))))) in
+    let same : front ++ elementBytes w ≡ head ++ (b ∷ []) = simp (e, append-assoc) in
+    let place : length (front ++ elementBytes w) - 1 ≡ length head = omega (arith, ap length same, length-append head (b ∷ [])) in
+    ap (λ (l : List ℕ). getD (l ++ tail) (length (front ++ elementBytes w) - 1) 0) same
+    ∙ ap (λ (l : List ℕ). getD l (length (front ++ elementBytes w) - 1) 0) (append-assoc head (b ∷ []) tail)
+    ∙ getD-at head b tail 0 _ (sym place)
+
+-- The letter of an element of a format that is read to its end.
+module _ (s ks : List ℕ) (known : KindsKnown ks) (end : ended s ks ≡ Finished) where
+  pub letter-in : (i : ℕ) (d : Placed) → i < length (placed s ks) → (e : Element) → getD (placed s ks) i d .piece ≡ AnElement e
+      → isTime (e .conversion) ≡ false → NamedBy (getD s (getD (placed s ks) i d .to - 1) 0) (e .conversion) (e .upper)
+  unfolding allBytes
+  letter-in i d h e q n = go (subst (λ (p : Piece). PieceIs (length (allBytes (x .before))) p (x .part)) q (x .is)) (x .to) whole
+    where
+      m : Made s ks known
+      m = parts-of s ks known end
+
+      x : IsPart (getD (placed s ks) i d) (m .parts)
+      x = nth-part (read-whole s ks known (m .whole) .lists) i d h
+
+      whole : s ≡ (allBytes (x .before) ++ bytesOf (x .part)) ++ x .tail
+      whole = reads-bytes (m .whole .reads) ∙ append-nil (allBytes (m .parts)) ∙ x .bytes
+
+      go : {p : Part} {to : ℕ} → PieceIs (length (allBytes (x .before))) (AnElement e) p → to ≡ length (allBytes (x .before) ++ bytesOf p)
+          → s ≡ (allBytes (x .before) ++ bytesOf p) ++ x .tail → NamedBy (getD s (to - 1) 0) (e .conversion) (e .upper)
+      go {to = to} (Q.is-element {w = w} is) at all =
+          let y = one-byte (e .conversion) (e .upper) (w .letter) (is .letter) n in
+          let b : getD s (to - 1) 0 ≡ y .b =
+          ap (λ (l : List ℕ). getD l (to - 1) 0) all
+          ∙ ap (λ (k : ℕ). getD ((allBytes (x .before) ++ elementBytes w) ++ x .tail) (k - 1) 0) at
+          ∙ last-byte w (y .b) (y .is) (allBytes (x .before)) (x .tail) in
+          subst (λ (l : ℕ). NamedBy l (e .conversion) (e .upper)) (sym b) (y .names)
