@@ -28,7 +28,7 @@ use Rattle.specifiers.specs.declared.LetterTaken.{LetterTaken}
 use Rattle.specifiers.specs.declared.LetterTaken.the-variants as L
 use Rattle.parsing.specs.Check.{isKnown}
 use Rattle.grammar.specs.Runs.{begins, all}
-use Rattle.grammar.specs.Elements.{letters, timeLetters, IsLetter, plain, time, needs, inTable, fitsBytes}
+use Rattle.grammar.specs.Elements.{letters, timeLetters, IsLetter, plain, time, kinds, needs, inTable, fitsBytes}
 
 pub never : false ≡ true → ⊥
 never e = let z : _≡_ {A = ℕ} 0 1 = cc in omega arith
@@ -80,10 +80,6 @@ same-is : (a b : Bool) → same a b ≡ true → a ≡ b
 same-is true b e = sym e
 same-is false true e = absurd (never e)
 same-is false false e = refl
-
--- the kinds
-abbrev pub kinds : List ℕ
-kinds = 1 ∷ 2 ∷ 3 ∷ 4 ∷ 5 ∷ 6 ∷ 7 ∷ []
 
 unfoldable one : ℕ → LetterTaken
 one b = oneLetter (smallOf b) (capitalOf b) 0

@@ -2,13 +2,16 @@
 use mathlib.Core.Path.{_≡_, refl, sym, ap, subst, _∙_}
 use mathlib.Core.Bool.{Bool, true, false}
 use mathlib.Core.List.{List, [], _∷_, _++_, append-assoc, append-nil}
-use Prim.Native.Nat.{ℕ, suc, _+_, _-_, _≤_, _<_}
+use Prim.Native.Nat.{ℕ, suc, _+_, _-_, _≤_, _<_, max}
 use native.Mathlib.Decide.{decLt}
 use native.Mathlib.Omega.{arith}
 use lib.ListN.{length, getD, length-append, List·getD-append}
 use lib.Seq.{getD-at}
+use Rattle.parsing.specs.Check.{argumentOf, largestOf}
 use Rattle.parsing.specs.Listed.{Placed}
-use Rattle.grammar.specs.Parts.{Part, bytesOf, allBytes}
+use Rattle.parsing.specs.declared.Piece.{Piece}
+use Rattle.parsing.proofs.Cover.{largest-one}
+use Rattle.grammar.specs.Parts.{Part, bytesOf, allBytes, argumentIn, largestIn}
 use Rattle.grammar.specs.Pieces.{PieceIs, Lists}
 use Rattle.grammar.specs.Pieces as Q
 
@@ -42,3 +45,20 @@ nth-part (Q.one {ps} {before} {x} {p} w is from to) i d h = elim (decLt i (lengt
       subst (λ (y : Placed). IsPart y (p ∷ before)) (sym e)
       (record { before = before; part = p; tail = []; is = is; to = to; bytes = sym (append-nil (allBytes before ++ bytesOf p)) })
 ]
+
+-- As many pieces are listed as there are parts, and their largest argument is that of the parts.
+pub lists-length : {ps : List Placed} {parts : List Part} → Lists ps parts → length ps ≡ length parts
+lists-length Q.nothing = refl
+lists-length (Q.one {ps} {before} {x} w is from to) = omega (arith, length-append ps (x ∷ []), lists-length w)
+
+piece-argument : {at : ℕ} {x : Piece} {p : Part} → PieceIs at x p → argumentOf x ≡ argumentIn p
+piece-argument (Q.is-text e f) = refl
+piece-argument (Q.is-percent e f) = refl
+piece-argument (Q.is-newline e) = refl
+piece-argument (Q.is-element e) = e .argument
+
+pub lists-largest : {ps : List Placed} {parts : List Part} → Lists ps parts → largestOf ps ≡ largestIn parts
+unfolding largestOf largestIn
+lists-largest Q.nothing = refl
+lists-largest (Q.one {ps} {before} {x} {p} w is from to) =
+    largest-one ps x ∙ ap (λ (n : ℕ). max n (argumentOf (x .piece))) (lists-largest w) ∙ ap (max (largestIn before)) (piece-argument is)

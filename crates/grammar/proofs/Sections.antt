@@ -29,10 +29,10 @@ use Rattle.parsing.specs.declared.Cursor.{Cursor}
 use Rattle.parsing.specs.declared.Index.the-variants as I
 use Rattle.grammar.specs.Runs.{begins, Run, numberIn}
 use Rattle.grammar.specs.Parts.{Choice, Written, precisionBytes, Part, countedBy}
-use Rattle.grammar.specs.Elements.{Begun, Named, isFlag, Clash, Free, Flagged, Wide, PrecisionRun, absent, given, Precise, letters, timeLetters}
+use Rattle.grammar.specs.Elements.{kinds, Begun, Named, isFlag, Clash, Free, Flagged, Wide, PrecisionRun, absent, given, Precise, letters, timeLetters}
 use Rattle.grammar.specs.Elements.{IsLetter, Lettered, kindAt, fitsBytes}
 use Rattle.grammar.specs.Pieces.{At, paramRead, precisionRead, ElementIs}
-use Rattle.grammar.proofs.Letters.{kinds, LetterIs, SomeLetter, letter-is, no-letter-is, no-time-is}
+use Rattle.grammar.proofs.Letters.{LetterIs, SomeLetter, letter-is, no-letter-is, no-time-is}
 use Rattle.grammar.proofs.Places.{drop-behind, flags-read, flags-refused, param-read, param-large, width-digit, precision-digit}
 use Rattle.grammar.proofs.Choices.{begins-none, Chosen, chosen}
 

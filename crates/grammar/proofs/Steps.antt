@@ -34,14 +34,14 @@ use Rattle.parsing.proofs.Progress.{advanced}
 use Rattle.grammar.specs.Runs.{begins, Run, numberIn}
 use Rattle.grammar.specs.Parts.{Choice, same, index, counted, choiceBytes, Written, precisionBytes, elementBytes}
 use Rattle.grammar.specs.Parts.{Part, text, percent, newline, element, bytesOf, allBytes, countedBy, countedIn, namedBy, lastNamed}
-use Rattle.grammar.specs.Elements.{IsIndex, Names, by-last, by-index, by-count, Begun, Named, Lettered, Precise, IsLetter, kindAt, fitsBytes, Stands}
+use Rattle.grammar.specs.Elements.{kinds, IsIndex, Names, by-last, by-index, by-count, Begun, Named, Lettered, Precise, IsLetter, kindAt, fitsBytes, Stands}
 use Rattle.grammar.specs.Elements as E
 use Rattle.grammar.specs.Faults as K
 use Rattle.grammar.specs.Faults.{Fault}
 use Rattle.grammar.specs.Pieces.{IsLast, At, paramRead, precisionRead, ElementIs, PieceIs}
 use Rattle.grammar.specs.Pieces as Q
 use Rattle.grammar.proofs.Runs.{leading, notPercent, leading-is, text-leading}
-use Rattle.grammar.proofs.Letters.{never, kinds, LetterIs, SomeLetter, letter-is, no-letter-is, no-time-is}
+use Rattle.grammar.proofs.Letters.{never, LetterIs, SomeLetter, letter-is, no-letter-is, no-time-is}
 use Rattle.grammar.proofs.Places.{drop-behind, index-begins}
 use Rattle.grammar.proofs.Choices.{begins-with, begins-none, Chosen, same-step, index-large}
 use Rattle.grammar.proofs.Sections.{argument-chosen, Argued, argued, flags-taken, width-taken, PartsRead, parts-taken}

@@ -90,15 +90,18 @@ pub record Lettered (n : ℕ) (before : List Part) (r : List ℕ) (w : Written) 
   pub precise : Precise n before r w (w .letter ++ rest)
   pub letter : IsLetter (w .letter)
 
--- and the letter fits the kind: "b needs 6; c, d, o, x need 1 to 4; e, f, g, a need 1 to 5; t and T fit none of our kinds; s and h take all. Capitals
+-- and the letter fits the kind, which is one of 1 to 7: "b needs 6; c, d, o, x need 1 to 4; e, f, g, a need 1 to 5; t and T fit none of our kinds; s and h take all. Capitals
 -- likewise." The kind is the byte without a null mark.
+abbrev pub kinds : List ℕ
+kinds = 1 ∷ 2 ∷ 3 ∷ 4 ∷ 5 ∷ 6 ∷ 7 ∷ []
+
 abbrev pub needs : List (List ℕ × List ℕ)
 needs =
     (ascii "bB", 6 ∷ [])
     ∷ (ascii "cCdoxX", 1 ∷ 2 ∷ 3 ∷ 4 ∷ [])
     ∷ (ascii "eEfgGaA", 1 ∷ 2 ∷ 3 ∷ 4 ∷ 5 ∷ [])
     ∷ (ascii "tT", [])
-    ∷ (ascii "sShH", 1 ∷ 2 ∷ 3 ∷ 4 ∷ 5 ∷ 6 ∷ 7 ∷ [])
+    ∷ (ascii "sShH", kinds)
     ∷ []
 
 abbrev pub inTable : List (List ℕ × List ℕ) → ℕ → ℕ → Bool

@@ -30,10 +30,10 @@ use Rattle.parsing.specs.declared.Ended.the-variants.{Finished}
 use Rattle.parsing.specs.declared.Piece.{Piece}
 use Rattle.parsing.specs.declared.Piece.the-variants.{Fixed, Byte, Element as AnElement}
 use Rattle.grammar.specs.Parts.{Written, choiceBytes, precisionBytes, Part, element, elementBytes, bytesOf, allBytes}
-use Rattle.grammar.specs.Elements.{kindAt}
+use Rattle.grammar.specs.Elements.{kinds, kindAt}
 use Rattle.grammar.specs.Pieces.{ElementIs, PieceIs}
 use Rattle.grammar.specs.Pieces as Q
-use Rattle.grammar.proofs.Letters.{kinds, known-kind}
+use Rattle.grammar.proofs.Letters.{known-kind}
 use Rattle.grammar.proofs.Listed.{IsPart, nth-part}
 use Rattle.grammar.proofs.Readings.{Made, parts-of, read-whole, reads-bytes}
 use Rattle.grammar.proofs.Steps.{KindsKnown}

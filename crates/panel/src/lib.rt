@@ -1,6 +1,6 @@
 // The panel's C entries: checking, measuring and printing on numbers and byte slices. panel.h has their meaning for C.
-use parsing::Checked;
 use outcomes::Outcome;
+use parsing::Checked;
 ghost use mathlib.Core.Path.{_≡_};
 ghost use Prim.Native.Nat.{_*_, _/_, _≤_};
 ghost use lib.ListN.{length};

@@ -1,17 +1,18 @@
 -- The pieces of a format that is read to its end cover it from the first byte to the last; they are at most 512, and no more than bytes. Assumes nothing.
-use mathlib.Core.Path.{_≡_, refl, sym, _∙_}
+use mathlib.Core.Path.{_≡_, refl, sym, ap, _∙_}
 use mathlib.Core.Bool.{true, _&&_}
-use mathlib.Core.List.{List, []}
-use Prim.Native.Nat.{ℕ, zero, suc, _+_, _≤_, _<_}
+use mathlib.Core.List.{List, [], _∷_, _++_}
+use Prim.Native.Nat.{ℕ, zero, suc, _+_, _≤_, _<_, max}
 use native.Mathlib.Decide.{decLt}
+use native.Mathlib.Nat.{max-comm}
 use native.Mathlib.Omega.{arith}
 use lib.Dec.{leb}
 use lib.ListN.{length}
 use Rattle.refusals.specs.Limits.{mostKinds, mostPieces}
 use Rattle.utf8.specs.Utf8.{wellFormed, wellFormedFrom}
 use Rattle.parsing.specs.Pieces.{start, pieceAt}
-use Rattle.parsing.specs.Listed.{placedFrom, endFrom, placed, ended}
-use Rattle.parsing.specs.Check.{allKnown, largestOf, checked}
+use Rattle.parsing.specs.Listed.{Placed, placedFrom, endFrom, placed, ended}
+use Rattle.parsing.specs.Check.{allKnown, argumentOf, largestOf, checked}
 use Rattle.parsing.specs.Covers.{Covers}
 use Rattle.parsing.specs.declared.Cursor.{Cursor}
 use Rattle.parsing.specs.declared.Step.{Step}
@@ -83,3 +84,12 @@ module _ (ks : List ℕ) where
   pub empty-checked : (leb (length ks) mostKinds && allKnown ks) ≡ true → checked [] ks ≡ Accepted 0 0
   unfolding checked wellFormed wellFormedFrom largestOf
   empty-checked e = simp (e, empty-ended, empty)
+
+-- the largest argument of some pieces and one more
+pub largest-one : (ps : List Placed) (p : Placed) → largestOf (ps ++ (p ∷ [])) ≡ max (largestOf ps) (argumentOf (p .piece))
+unfolding largestOf
+largest-one [] p = max-comm (argumentOf (p .piece)) 0
+largest-one (q ∷ ps) p = ap (max (argumentOf (q .piece))) (largest-one ps p) ∙ regrouped (argumentOf (q .piece)) (largestOf ps) (argumentOf (p .piece))
+  where
+    regrouped : (a b c : ℕ) → max a (max b c) ≡ max (max a b) c
+    regrouped a b c = omega arith

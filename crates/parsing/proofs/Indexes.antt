@@ -24,7 +24,7 @@ use Rattle.parsing.specs.declared.Index.{Index}
 use Rattle.parsing.specs.declared.Index.the-variants as I
 
 -- digits that do not begin with 0 make a number of at least 1
-number-pos : (l : List ℕ) → isParam false l ≡ true → 1 ≤ numberOf 10 (leadingDigits l)
+pub number-pos : (l : List ℕ) → isParam false l ≡ true → 1 ≤ numberOf 10 (leadingDigits l)
 unfolding leadingDigits numberOf numberFrom
 number-pos [] e = absurd (let z : _≡_ {A = ℕ} 0 1 = cc in omega arith)
 number-pos (b ∷ l) e =

@@ -2,5 +2,4 @@ pub mod Pieces
 pub mod Listed
 pub mod Check
 pub mod Covers
-pub mod Causes
 pub mod Refusals

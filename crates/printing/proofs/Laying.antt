@@ -19,6 +19,7 @@ use Rattle.parsing.specs.declared.Cursor.{Cursor}
 use Rattle.parsing.specs.declared.Ended.{Ended}
 use Rattle.parsing.specs.declared.Ended.the-variants.{Finished, Stopped}
 use Rattle.parsing.specs.declared.Step.the-variants.{Found}
+use Rattle.parsing.proofs.Cover.{largest-one}
 use Rattle.parsing.proofs.Sound.{sound}
 use Rattle.rows.specs.Row.{kindsOf}
 use Rattle.pieces.specs.PieceTexts.{pieceText}
@@ -30,7 +31,7 @@ use Rattle.outcomes.specs.declared.Outcome.the-variants.{Accepted}
 use Rattle.printing.specs.declared.Tally.{Tally}
 use Rattle.printing.specs.declared.Tally.the-variants.{Length, Stops}
 use Rattle.outcomes.proofs.Joined.{joined-part}
-use Rattle.printing.proofs.Reached.{Reached, reached-start, next-inside, taken-next, reached-next, reached-end, all-taken, all-counted, largest-one}
+use Rattle.printing.proofs.Reached.{Reached, reached-start, next-inside, taken-next, reached-next, reached-end, all-taken, all-counted}
 use Rattle.outcomes.proofs.Texts.{texts-one, texts-length, texts-take}
 use Rattle.printing.proofs.Tallies.{tallied-one, tally-length, tally-end}
 use Rattle.printing.proofs.Behind.{joined-length, text-behind, end-behind}

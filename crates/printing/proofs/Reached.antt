@@ -91,12 +91,3 @@ module _ {s ks : List ℕ} {k : ℕ} {c : Cursor} (at : Reached s ks k c) where
     all-counted =
         let z : length (placed s ks) - k ≡ 0 = sym (length-drop k (placed s ks)) ∙ ap length all-gone in
         omega (arith, at .inside)
-
--- the largest argument of some pieces and one more
-pub largest-one : (ps : List Placed) (p : Placed) → largestOf (ps ++ (p ∷ [])) ≡ max (largestOf ps) (argumentOf (p .piece))
-unfolding largestOf
-largest-one [] p = max-comm (argumentOf (p .piece)) 0
-largest-one (q ∷ ps) p = ap (max (argumentOf (q .piece))) (largest-one ps p) ∙ regrouped (argumentOf (q .piece)) (largestOf ps) (argumentOf (p .piece))
-  where
-    regrouped : (a b c : ℕ) → max a (max b c) ≡ max (max a b) c
-    regrouped a b c = omega arith

@@ -57,7 +57,7 @@ module _ (s row : List ℕ) where
 
   pub tally-length : (k : ℕ) (ps : List Placed) → firstStop s row ps ≡ none
       → tallied s row (T.Length 0) (take k ps) ≡ T.Length (length (joined (textsOf s row (take k ps))))
-  tally-length k ps e = tally-is (take k ps) ∙ ap (λ (x : Option Stop). unlessStop x (length (joined (textsOf s row (take k ps))))) (stop-part k ps e)
+  tally-length k ps e = tally-is (take k ps) ∙ ap (λ (x : Option Stop). unlessStop x (length (joined (textsOf s row (take k ps))))) (stop-part s row k ps e)
 
   -- read to its end
   pub tally-end : (ps : List Placed) (k : ℕ) → outcomeOf Finished (tallied s row (T.Length 0) ps) k
