@@ -72,16 +72,16 @@ abbrev isComponent : TimeLetter → Bool
 isComponent (Component x) = true
 isComponent NoComponent = false
 
-abbrev same : Bool → Bool → Bool
+abbrev pub same : Bool → Bool → Bool
 same true b = b
 same false b = not b
 
-same-is : (a b : Bool) → same a b ≡ true → a ≡ b
+pub same-is : (a b : Bool) → same a b ≡ true → a ≡ b
 same-is true b e = sym e
 same-is false true e = absurd (never e)
 same-is false false e = refl
 
-unfoldable one : ℕ → LetterTaken
+unfoldable pub one : ℕ → LetterTaken
 one b = oneLetter (smallOf b) (capitalOf b) 0
 
 all-read : all (λ b. wasRead (one b)) letters ≡ true
@@ -107,7 +107,7 @@ pub record SomeLetter (x : List ℕ) : Type 0 where
   pub is : LetterIs x conversion upper
 
 -- t and T are letters of their own, which the two tables do not have
-not-time : (b : ℕ) → has letters b ≡ true → (eqb b (code "t") ≡ false) × (eqb b (code "T") ≡ false)
+pub not-time : (b : ℕ) → has letters b ≡ true → (eqb b (code "t") ≡ false) × (eqb b (code "T") ≡ false)
 unfolding all
 not-time b h = (all-not (code "t") refl, all-not (code "T") refl)
   where
@@ -152,11 +152,11 @@ plain-letter l h = go (smallOf l) (capitalOf l) refl refl (all-has (λ b. wasRea
     go NoConversion NoConversion p q r = absurd (never r)
 
 -- either of t and T
-either-time : (t : ℕ) → has (ascii "tT") t ≡ true → (eqb t (code "t") || eqb t (code "T")) ≡ true
+pub either-time : (t : ℕ) → has (ascii "tT") t ≡ true → (eqb t (code "t") || eqb t (code "T")) ≡ true
 unfolding all
 either-time t h = all-has (λ t. eqb t (code "t") || eqb t (code "T")) (ascii "tT") t refl h
 
-second : (t : ℕ) → has (ascii "tT") t ≡ true → (rest : List ℕ) (at : ℕ) → letterFrom (t ∷ rest) at ≡ secondLetter (eqb t (code "T")) rest at
+pub second : (t : ℕ) → has (ascii "tT") t ≡ true → (rest : List ℕ) (at : ℕ) → letterFrom (t ∷ rest) at ≡ secondLetter (eqb t (code "T")) rest at
 second t h rest at = go (eqb t (code "t")) (eqb t (code "T")) refl refl (either-time t h)
   where
     go : (a b : Bool) → eqb t (code "t") ≡ a → eqb t (code "T") ≡ b → (a || b) ≡ true

@@ -6,6 +6,8 @@ mod Choices
 mod Sections
 pub mod Steps
 mod Found
-mod Total
+pub mod Total
 pub mod Readings
 pub mod Listed
+pub mod Arguments
+pub mod Marks

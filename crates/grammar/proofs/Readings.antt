@@ -23,7 +23,7 @@ use Rattle.grammar.specs.Faults.{Fault}
 use Rattle.grammar.specs.Faults as K
 use Rattle.grammar.specs.Pieces.{At, PieceIs, Lists}
 use Rattle.grammar.specs.Pieces as Q
-use Rattle.grammar.specs.Readings.{Whole, Stops, many, fault}
+use Rattle.grammar.specs.Readings.{Whole, StopsReading, many, fault}
 use Rattle.grammar.proofs.Runs.{notPercent}
 use Rattle.grammar.proofs.Letters.{never}
 use Rattle.grammar.proofs.Steps.{KindsKnown, fault-step}
@@ -74,15 +74,16 @@ reads-bytes (E.one {before} {r} {p} {rest} w x) =
     reads-bytes w ∙ ap (λ (l : List ℕ). allBytes before ++ l) (stands-bytes x) ∙ sym (append-assoc (allBytes before) (bytesOf p) rest)
 
 module _ (s ks : List ℕ) (known : KindsKnown ks) where
-  -- Where reading stands behind parts that stand in the format.
-  record Came (before : List Part) (r : List ℕ) : Type 0 where
-    c : Cursor
-    at : At before c
-    here : drop (c .at) s ≡ r
-    pieces : List Placed
-    lists : Lists pieces before
-    end : ended s ks ≡ endFrom (mostPieces - length before) (pieceAt s ks) (length s) c
-    all : placed s ks ≡ pieces ++ placedFrom (mostPieces - length before) (pieceAt s ks) (length s) c
+  -- Where reading stands behind parts that stand in the format: a cursor whose numbers say what they are, the pieces so far, and what reading comes to from
+  -- there.
+  pub record Came (before : List Part) (r : List ℕ) : Type 0 where
+    pub c : Cursor
+    pub at : At before c
+    pub here : drop (c .at) s ≡ r
+    pub pieces : List Placed
+    pub lists : Lists pieces before
+    pub end : ended s ks ≡ endFrom (mostPieces - length before) (pieceAt s ks) (length s) c
+    pub all : placed s ks ≡ pieces ++ placedFrom (mostPieces - length before) (pieceAt s ks) (length s) c
 
   came-start : Came [] s
   unfolding ended placed allBytes countedIn lastNamed
@@ -145,12 +146,13 @@ module _ (s ks : List ℕ) (known : KindsKnown ks) where
       let inside = byte-left w (omega (arith, some-bytes x, ap length (stands-bytes x), length-append (bytesOf p) rest)) in
       came-found few w inside (stands-finds s ks (w .c) before (w .at) inside known r (w .here) x)
 
-  came : {before : List Part} {r : List ℕ} → Reads s ks before r → length before ≤ mostPieces → Came before r
+  -- Reading comes to every part that stands in the format.
+  pub came : {before : List Part} {r : List ℕ} → Reads s ks before r → length before ≤ mostPieces → Came before r
   came E.nothing h = came-start
   came (E.one w x) h = came-next (omega arith) (came w (omega arith)) x
 
   -- Where a cause stands, reading is stopped by it.
-  pub stopped-by : {n p : ℕ} → Stops s ks n p → ended s ks ≡ Stopped n p
+  pub stopped-by : {n p : ℕ} → StopsReading s ks n p → ended s ks ≡ Stopped n p
   stopped-by (many {before} {b} {rest} w full) =
       let k = came w (omega arith) in
       let z : mostPieces - length before ≡ 0 = omega arith in
@@ -186,7 +188,7 @@ module _ (s ks : List ℕ) (known : KindsKnown ks) where
 -- Every format is made of parts, or stopped.
 pub data Ends (s ks : List ℕ) : Type 0 where
   made : {parts : List Part} → Whole s ks parts → Ends s ks
-  stops : {n p : ℕ} → Stops s ks n p → Ends s ks
+  stops : {n p : ℕ} → StopsReading s ks n p → Ends s ks
 
 module _ (s ks : List ℕ) where
   ends-from : (n : ℕ) (before : List Part) (r : List ℕ) → n + length before ≡ mostPieces → Reads s ks before r → Ends s ks
@@ -210,10 +212,10 @@ module _ (s ks : List ℕ) where
 
 -- So reading that is stopped has its cause, and a format that is read to its end is made of parts.
 module _ (s ks : List ℕ) (known : KindsKnown ks) where
-  pub cause-of : (n p : ℕ) → ended s ks ≡ Stopped n p → Stops s ks n p
+  pub cause-of : (n p : ℕ) → ended s ks ≡ Stopped n p → StopsReading s ks n p
   cause-of n p e = go (ends s ks)
     where
-      go : Ends s ks → Stops s ks n p
+      go : Ends s ks → StopsReading s ks n p
       go (made w) = absurd (finished-stopped (sym (read-whole s ks known w .finished) ∙ e))
         where
           finished-stopped : Finished ≡ Stopped n p → ⊥
@@ -222,7 +224,7 @@ module _ (s ks : List ℕ) (known : KindsKnown ks) where
           let f = sym (stopped-by s ks known x) ∙ e in
           let number : m ≡ n = cc in
           let place : q ≡ p = cc in
-          subst (Stops s ks n) place (subst (λ (k : ℕ). Stops s ks k q) number x)
+          subst (StopsReading s ks n) place (subst (λ (k : ℕ). StopsReading s ks k q) number x)
 
   pub record Made : Type 0 where
     pub parts : List Part

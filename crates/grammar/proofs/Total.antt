@@ -30,7 +30,7 @@ use Rattle.grammar.proofs.Places.{index-param, index-of}
 use Rattle.grammar.proofs.Choices.{begins-cons, index-run}
 
 -- none of two texts has a byte; a text that begins with a point
-has-none : (l m : List ℕ) (b : ℕ) → has l b ≡ false → has m b ≡ false → has (l ++ m) b ≡ false
+pub has-none : (l m : List ℕ) (b : ℕ) → has l b ≡ false → has m b ≡ false → has (l ++ m) b ≡ false
 unfolding has
 has-none [] m b e n = n
 has-none (x ∷ l) m b e n = go (eqb x b) e (has-none l m b)

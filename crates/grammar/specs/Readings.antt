@@ -15,7 +15,7 @@ pub record Whole (s ks : List ℕ) (parts : List Part) : Type 0 where
 
 -- The number and place that stop it: "a 513th piece begins", or an element's fault. "Place is the offset of the element's `%`, for 13 where that piece
 -- starts": so many bytes stand before it.
-pub data Stops (s ks : List ℕ) : ℕ → ℕ → Type 0 where
-  many : {before : List Part} {b : ℕ} {rest : List ℕ} → Reads s ks before (b ∷ rest) → length before ≡ mostPieces → Stops s ks 13 (length (allBytes before))
+pub data StopsReading (s ks : List ℕ) : ℕ → ℕ → Type 0 where
+  many : {before : List Part} {b : ℕ} {rest : List ℕ} → Reads s ks before (b ∷ rest) → length before ≡ mostPieces → StopsReading s ks 13 (length (allBytes before))
   fault : {before : List Part} {r : List ℕ} {number : ℕ} → Reads s ks before r → length before < mostPieces → Fault ks before r number
-      → Stops s ks number (length (allBytes before))
+      → StopsReading s ks number (length (allBytes before))

@@ -1,0 +1,5 @@
+mod Unprinted
+mod Stops
+mod Inputs
+mod Refused
+pub mod Causes

@@ -1,0 +1,173 @@
+-- The first piece that is not printed is the first element that is not printed, from left to right. Assumes nothing.
+use mathlib.Core.Path.{_≡_, refl, sym, ap, subst, _∙_}
+use mathlib.Core.Bool.{Bool, true, false, not, _&&_}
+use mathlib.Core.List.{List, [], _∷_, _++_}
+use mathlib.Core.Option.{Option, none, some}
+use Prim.Native.Nat.{ℕ, _%_}
+use native.Mathlib.Omega.{arith}
+use lib.ListN.{length}
+use Rattle.writing.specs.Text.{ascii, has}
+use Rattle.writing.proofs.Choose.{both}
+use Rattle.numerals.specs.Integers.{intOf}
+use Rattle.conversions.specs.Kinds.{formOf, printsAs}
+use Rattle.conversions.specs.declared.Form.{Form}
+use Rattle.specifiers.specs.declared.Element.{Element}
+use Rattle.parsing.specs.Listed.{Placed}
+use Rattle.parsing.specs.declared.Piece.{Piece}
+use Rattle.parsing.specs.declared.Piece.the-variants.{Fixed, Byte, Element as AnElement}
+use Rattle.grammar.specs.Runs.{begins}
+use Rattle.grammar.specs.Parts.{Written, Part, text, percent, newline, element, allBytes}
+use Rattle.grammar.specs.Elements.{kinds}
+use Rattle.grammar.specs.Pieces.{ElementIs, PieceIs, Lists}
+use Rattle.grammar.specs.Pieces as Q
+use Rattle.grammar.proofs.Arguments.{OfElement, Each}
+use Rattle.grammar.proofs.Letters.{never}
+use Rattle.rows.specs.Row.{namedText, kindByteOf, valueOf, isNull}
+use Rattle.elements.specs.Texts.{elementText, stopOf}
+use Rattle.pieces.specs.PieceTexts.{shownPiece, pieceStop}
+use Rattle.outcomes.specs.Printed.{Stop, stopAt, firstStop}
+use Rattle.causes.specs.Causes.{printsBytes, isScalarValue, Unprinted, not-printed, no-scalar, Printed, AllPrinted, FirstUnprinted, here, earlier}
+use Rattle.causes.proofs.Unprinted.{isPrinted, isCharacter, Shows, shows, stop, stops-15, stops-16, goes-on}
+
+-- An element of a row whose kind is known.
+abbrev pub HasKind : List ℕ → Written → Type 0
+HasKind row w = has kinds (kindByteOf row (w .argument) % 128) ≡ true
+
+module _ (s row : List ℕ) (e : Element) (w : Written) (is : ElementIs e w) (known : HasKind row w) where
+  abbrev k : ℕ
+  k = kindByteOf row (w .argument)
+
+  abbrev v : ℕ
+  v = valueOf row (w .argument)
+
+  abbrev form : Form
+  form = formOf (e .conversion) (k % 128)
+
+  shown-so : Shows (w .letter) (e .conversion) (k % 128)
+  shown-so = shows (w .letter) (e .conversion) (e .upper) (length (w .letter)) (k % 128) (is .letter) known
+
+  stop-so : pieceStop s row (AnElement e) ≡ stop e (namedText row (w .argument)) v form (isNull k)
+  unfolding shownPiece elementText printsAs
+  stop-so = ap (λ (a : ℕ). stopOf (elementText e (kindByteOf row a) (namedText row a) (valueOf row a))) (is .argument)
+
+  unprinted-stops : (n : ℕ) → Unprinted row w n → pieceStop s row (AnElement e) ≡ some n
+  unprinted-stops n (not-printed h) = stop-so ∙ stops-15 e (namedText row (w .argument)) v form (isNull k) (sym (shown-so .printed) ∙ h)
+  unprinted-stops n (no-scalar p c null z) =
+      stop-so
+      ∙ ap (stop e (namedText row (w .argument)) v form) null
+      ∙ stops-16 e (namedText row (w .argument)) v form (sym (shown-so .character) ∙ simp (c, p)) z
+
+  printed-goes : ((n : ℕ) → Unprinted row w n → ⊥) → pieceStop s row (AnElement e) ≡ none
+  printed-goes none-of = stop-so ∙ goes-on e (namedText row (w .argument)) v form (isNull k) (sym (shown-so .printed) ∙ printed) scalar
+    where
+      printed : printsBytes (w .letter) (k % 128) ≡ true
+      printed = go (printsBytes (w .letter) (k % 128)) refl
+        where
+          go : (t : Bool) → printsBytes (w .letter) (k % 128) ≡ t → t ≡ true
+          go true q = refl
+          go false q = absurd (none-of 15 (not-printed q))
+
+      scalar : isCharacter form ≡ true → isNull k ≡ false → isScalarValue (intOf 64 v) ≡ true
+      scalar c null =
+          go (isScalarValue (intOf 64 v)) refl (both (begins (has (ascii "cC")) (w .letter)) (printsBytes (w .letter) (k % 128)) (shown-so .character ∙ c) .0)
+        where
+          go : (t : Bool) → isScalarValue (intOf 64 v) ≡ t → begins (has (ascii "cC")) (w .letter) ≡ true → t ≡ true
+          go true q b = refl
+          go false q b = absurd (none-of 16 (no-scalar printed b null q))
+
+-- Whether an element is printed, and whether all of some parts are, can be told.
+pub data Told (P : Type 0) (Q : ℕ → ℕ → Type 0) : Type 0 where
+  fine : P → Told P Q
+  found : {n p : ℕ} → Q n p → Told P Q
+
+module _ (row : List ℕ) where
+  told-element : (w : Written) → Told (Printed row (element w)) (λ n _. Unprinted row w n)
+  told-element w =
+      go (printsBytes (w .letter) (kindByteOf row (w .argument) % 128)) (begins (has (ascii "cC")) (w .letter)) (isNull (kindByteOf row (w .argument)))
+      (isScalarValue (intOf 64 (valueOf row (w .argument)))) refl refl refl refl
+    where
+      go : (a b c d : Bool) → printsBytes (w .letter) (kindByteOf row (w .argument) % 128) ≡ a → begins (has (ascii "cC")) (w .letter) ≡ b
+          → isNull (kindByteOf row (w .argument)) ≡ c → isScalarValue (intOf 64 (valueOf row (w .argument))) ≡ d
+          → Told (Printed row (element w)) (λ n _. Unprinted row w n)
+      go false b c d p q r z = found {p = 0} (not-printed p)
+      go true true false false p q r z = found {p = 0} (no-scalar p q r z)
+      go true false c d p q r z = fine (λ n u. against n u)
+        where
+          against : (n : ℕ) → Unprinted row w n → ⊥
+          against n (not-printed h) = never (sym h ∙ p)
+          against n (no-scalar x y m l) = never (sym q ∙ y)
+      go true true true d p q r z = fine (λ n u. against n u)
+        where
+          against : (n : ℕ) → Unprinted row w n → ⊥
+          against n (not-printed h) = never (sym h ∙ p)
+          against n (no-scalar x y m l) = never (sym m ∙ r)
+      go true true false true p q r z = fine (λ n u. against n u)
+        where
+          against : (n : ℕ) → Unprinted row w n → ⊥
+          against n (not-printed h) = never (sym h ∙ p)
+          against n (no-scalar x y m l) = never (sym l ∙ z)
+
+  pub told : (parts : List Part) → Told (AllPrinted row parts) (FirstUnprinted row parts)
+  told [] = fine tt
+  told (p ∷ before) = go p (told before)
+    where
+      judged : (w : Written) → AllPrinted row before → Told (Printed row (element w)) (λ n _. Unprinted row w n)
+          → Told (AllPrinted row (element w ∷ before)) (FirstUnprinted row (element w ∷ before))
+      judged w h (fine x) = fine (x, h)
+      judged w h (found x) = found (here x h)
+
+      go : (p : Part) → Told (AllPrinted row before) (FirstUnprinted row before) → Told (AllPrinted row (p ∷ before)) (FirstUnprinted row (p ∷ before))
+      go p (found x) = found (earlier x)
+      go (text t) (fine h) = fine (tt, h)
+      go percent (fine h) = fine (tt, h)
+      go newline (fine h) = fine (tt, h)
+      go (element w) (fine h) = judged w h (told-element w)
+
+-- The first piece of a list that is not printed, where one more stands behind it.
+module _ (s row : List ℕ) where
+  abbrev orElse : Option Stop → Option Stop → Option Stop
+  orElse none x = x
+  orElse (some t) x = some t
+
+  first-snoc : (ps : List Placed) (x : Placed) → firstStop s row (ps ++ (x ∷ []))
+      ≡ orElse (firstStop s row ps) (stopAt (pieceStop s row (x .piece)) (x .from) none)
+  unfolding firstStop
+  first-snoc [] x = refl
+  first-snoc (y ∷ ps) x = go (pieceStop s row (y .piece)) (first-snoc ps x)
+    where
+      go : (t : Option ℕ) → firstStop s row (ps ++ (x ∷ [])) ≡ orElse (firstStop s row ps) (stopAt (pieceStop s row (x .piece)) (x .from) none)
+          → stopAt t (y .from) (firstStop s row (ps ++ (x ∷ [])))
+          ≡ orElse (stopAt t (y .from) (firstStop s row ps)) (stopAt (pieceStop s row (x .piece)) (x .from) none)
+      go none e = e
+      go (some n) e = refl
+
+  piece-goes : {at : ℕ} {x : Piece} {p : Part} → PieceIs at x p → OfElement (HasKind row) p → Printed row p → pieceStop s row x ≡ none
+  unfolding shownPiece
+  piece-goes (Q.is-text e f) known h = refl
+  piece-goes (Q.is-percent e f) known h = refl
+  piece-goes (Q.is-newline e) known h = refl
+  piece-goes (Q.is-element {e} {w} is) known h = printed-goes s row e w is known h
+
+  pub none-stops : {ps : List Placed} {parts : List Part} → Lists ps parts → Each (HasKind row) parts → AllPrinted row parts → firstStop s row ps ≡ none
+  unfolding firstStop
+  none-stops Q.nothing known h = refl
+  none-stops (Q.one {ps} {before} {x} {p} l is from to) known h =
+      first-snoc ps x
+      ∙ ap (λ (t : Option Stop). orElse t (stopAt (pieceStop s row (x .piece)) (x .from) none)) (none-stops l (known .1) (h .1))
+      ∙ ap (λ (t : Option ℕ). stopAt t (x .from) none) (piece-goes is (known .0) (h .0))
+
+  abbrev stopOn : ℕ → ℕ → Option Stop
+  stopOn n p = some (record { number = n; place = p })
+
+  pub first-stops : {ps : List Placed} {parts : List Part} {n p : ℕ} → Lists ps parts → Each (HasKind row) parts → FirstUnprinted row parts n p
+      → firstStop s row ps ≡ stopOn n p
+  first-stops (Q.one {ps} {before} {x} l is from to) known (earlier u) =
+      first-snoc ps x ∙ ap (λ (t : Option Stop). orElse t (stopAt (pieceStop s row (x .piece)) (x .from) none)) (first-stops l (known .1) u)
+  first-stops {n = n} (Q.one {ps} {before} {x} l is from to) known (here u h) =
+      first-snoc ps x
+      ∙ ap (λ (t : Option Stop). orElse t (stopAt (pieceStop s row (x .piece)) (x .from) none)) (none-stops l (known .1) h)
+      ∙ ap (λ (t : Option ℕ). stopAt t (x .from) none) (piece-stops is (known .0) u)
+      ∙ ap (stopOn n) from
+    where
+      piece-stops : {at : ℕ} {y : Piece} {w : Written} {n : ℕ} → PieceIs at y (element w) → HasKind row w → Unprinted row w n → pieceStop s row y ≡ some n
+      piece-stops (Q.is-element {e} {w} is) known u = unprinted-stops s row e w is known _ u

@@ -1,0 +1,92 @@
+-- 01's table, "What stops a call", over the bytes of what is lent: the cause of each number, in the table's order. For laws alone.
+use Prim.Native.Nat.{ℕ, _%_, _≤_, _<_}
+use mathlib.Core.Path.{_≡_}
+use mathlib.Core.Bool.{Bool, true, false, _&&_, _||_}
+use mathlib.Core.List.{List, [], _∷_}
+use lib.Dec.{leb}
+use lib.IntN.{ℤ, pos, negsuc}
+use lib.ListN.{length}
+use Rattle.refusals.specs.Limits.{mostFormat, mostKinds, largestEnd}
+use Rattle.writing.specs.Text.{ascii, has}
+use Rattle.numerals.specs.Integers.{intOf}
+use Rattle.utf8.specs.Utf8.{wellFormed}
+use Rattle.grammar.specs.Runs.{begins}
+use Rattle.grammar.specs.Parts.{Written, Part, text, percent, newline, element, allBytes}
+use Rattle.grammar.specs.Elements.{kinds, inTable}
+use Rattle.grammar.specs.Readings.{Whole, StopsReading}
+use Rattle.rows.specs.Row.{kindByteOf, valueOf, isNull, isRow}
+use Rattle.outcomes.specs.Printed.{printedText}
+use Rattle.causes.specs.Calls.{Call, checking, printing, formatIn, kindsIn, OfRow}
+
+-- "over 64 kinds, or a kind not 1 to 7 (checking)", "row breaks its layout"
+pub data BadInput : Call → ℕ → Type 0 where
+  many-kinds : {s ks : List ℕ} → mostKinds < length ks → BadInput (checking s ks) 3
+  no-kind : {s ks : List ℕ} (k : ℕ) → has ks k ≡ true → has kinds k ≡ false → BadInput (checking s ks) 3
+  broken-row : {call : Call} {row : List ℕ} → OfRow call row → isRow row ≡ false → BadInput call 14
+
+-- "Order: 1, 2, 3 or 14; then pieces": what comes before the pieces is in order.
+pub record Begins (call : Call) : Type 0 where
+  pub short : length (formatIn call) ≤ mostFormat
+  pub formed : wellFormed (formatIn call) ≡ true
+  pub input : (number : ℕ) → BadInput call number → ⊥
+
+-- Which letters print which kinds: integers by %d, %x, %o, %c and %s; "the only letters printed for kind 5" are those of %a; "%b of Boolean and %s of
+-- text are the only letters printed for kinds 6 and 7 (capitals too)".
+abbrev pub prints : List (List ℕ × List ℕ)
+prints =
+    (ascii "dxXocCsS", 1 ∷ 2 ∷ 3 ∷ 4 ∷ []) ∷ (ascii "aA", 5 ∷ []) ∷ (ascii "bB", 6 ∷ []) ∷ (ascii "sS", 7 ∷ []) ∷ []
+
+abbrev pub printsBytes : List ℕ → ℕ → Bool
+printsBytes [] k = false
+printsBytes (l ∷ more) k = inTable prints l k
+
+-- A Unicode scalar value: 0 to D7FF or E000 to 10FFFF, hexadecimal.
+abbrev pub isScalarValue : ℤ → Bool
+isScalarValue (pos n) = leb n 0xd7ff || (leb 0xe000 n && leb n 0x10ffff)
+isScalarValue (negsuc n) = false
+
+-- "letter not printed for this kind", "%c of no Unicode scalar value", of an element of a row.
+pub data Unprinted (row : List ℕ) (w : Written) : ℕ → Type 0 where
+  not-printed : printsBytes (w .letter) (kindByteOf row (w .argument) % 128) ≡ false → Unprinted row w 15
+  no-scalar : printsBytes (w .letter) (kindByteOf row (w .argument) % 128) ≡ true → begins (has (ascii "cC")) (w .letter) ≡ true
+      → isNull (kindByteOf row (w .argument)) ≡ false → isScalarValue (intOf 64 (valueOf row (w .argument))) ≡ false → Unprinted row w 16
+
+-- "then 15 and 16 left to right over a format that passed": that none of some parts is such, and the first that is. The last part stands first.
+abbrev pub Printed : List ℕ → Part → Type 0
+Printed row (text t) = Unit {0}
+Printed row percent = Unit {0}
+Printed row newline = Unit {0}
+Printed row (element w) = (number : ℕ) → Unprinted row w number → ⊥
+
+abbrev pub AllPrinted : List ℕ → List Part → Type 0
+AllPrinted row [] = Unit {0}
+AllPrinted row (p ∷ before) = Printed row p × AllPrinted row before
+
+pub data FirstUnprinted (row : List ℕ) : List Part → ℕ → ℕ → Type 0 where
+  here : {w : Written} {before : List Part} {number : ℕ} → Unprinted row w number → AllPrinted row before
+      → FirstUnprinted row (element w ∷ before) number (length (allBytes before))
+  earlier : {p : Part} {before : List Part} {number place : ℕ} → FirstUnprinted row before number place → FirstUnprinted row (p ∷ before) number place
+
+-- "text longer than output or than 4,294,967,295, or more pieces than ends"
+pub data NoRoom (s row : List ℕ) (room slots pieces : ℕ) : Type 0 where
+  longer-than-output : room < length (printedText s row) → NoRoom s row room slots pieces
+  longer-than-ends-hold : largestEnd < length (printedText s row) → NoRoom s row room slots pieces
+  more-pieces : slots < pieces → NoRoom s row room slots pieces
+
+-- The cause of a refusal, with its number and place.
+pub data Cause : Call → ℕ → ℕ → Type 0 where
+  -- "format over 4,096 bytes"
+  long : {call : Call} → mostFormat < length (formatIn call) → Cause call 1 0
+  -- "format not UTF-8"
+  malformed : {call : Call} → length (formatIn call) ≤ mostFormat → wellFormed (formatIn call) ≡ false → Cause call 2 0
+  -- 3 and 14
+  input : {call : Call} {number : ℕ} → length (formatIn call) ≤ mostFormat → wellFormed (formatIn call) ≡ true → BadInput call number → Cause call number 0
+  -- 4 to 13
+  reading : {call : Call} {number place : ℕ} → Begins call → StopsReading (formatIn call) (kindsIn call) number place → Cause call number place
+  -- 15 and 16
+  unprinted : {call : Call} {row : List ℕ} {parts : List Part} {number place : ℕ} → Begins call → OfRow call row → Whole (formatIn call) (kindsIn call) parts
+      → FirstUnprinted row parts number place → Cause call number place
+  -- 17
+  no-room : {s row : List ℕ} {room slots : ℕ} {parts : List Part} → Begins (printing s row room slots)
+      → Whole s (kindsIn (printing s row room slots)) parts → AllPrinted row parts → NoRoom s row room slots (length parts)
+      → Cause (printing s row room slots) 17 0
