@@ -31,9 +31,9 @@ fn write_line(out: &mut [u8], text: &[u8]) -> usize
     requires { ⌜ length (now text) + 1 ≤ length (now out) ⌝ }
     ensures { λ r. ⌜ Wrote (now (out .entry)) (line (now (text .entry))) r (now (out .exit)) ⌝ }
 {
-    let n = writing::write_text(out, text);
-    out[n] = b'\n';
-    n + 1
+    let end = writing::write_text(out, text);
+    out[end] = b'\n';
+    end + 1
 }
 
 // Writes a word and two numbers on a line. Answers the line's length. A number has at most 20 digits.

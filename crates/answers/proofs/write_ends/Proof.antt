@@ -17,14 +17,14 @@ use Rattle.answers.proofs.write_ends.Tie as tie
 
 abbrev Inv-loop : tie.InvT-loop
 Inv-loop out₀ ends at₀ k₀ k-end out at k =
-    (k ≤ length ends) × (at ≤ 11 * k) × (Wrote out₀ (endLines (take k ends)) at out) × (length out ≡ length out₀)
+    (Wrote out₀ (endLines (take k ends)) at out) × (k ≤ length ends) × (at ≤ 11 * k) × (length out ≡ length out₀)
 
 abbrev μ-loop : tie.MeasureT-loop
 μ-loop out₀ ends at₀ k₀ k-end out at k = k-end - k
 
 loop-holds : tie.Need-loop-holds Inv-loop μ-loop
 unfolding endLines
-loop-holds c = (omega arith, omega arith, (refl, sym (laid-none (c .before .before .args .out .now))), refl)
+loop-holds c = ((refl, sym (laid-none (c .before .before .args .out .now))), omega arith, omega arith, refl)
 
 -- there is room for one more end
 room : (c : tie.In-loop Inv-loop μ-loop) → c .before .loop .at + 11 ≤ length (c .before .loop .out)
@@ -84,11 +84,11 @@ loop-again c =
     let s = start .args .ends .now in
     let e = endAt in-loop in
     let k : l .k < length s = search needs in
-    let two = wrote-two d (endLines (take (l .k) s)) (line (decimal e)) (l .out) _ (l .at) _ (l .inv .2) (wrote .write-number-line .ensures) in
+    let two = wrote-two d (endLines (take (l .k) s)) (line (decimal e)) (l .out) _ (l .at) _ (l .inv .0) (wrote .write-number-line .ensures) in
     let w = rw (lines-next s (l .k) k) at two in
     let r = grown wrote in
     let fits : length (endLines (take (l .k + 1) s)) ≤ length d = omega (arith, w .0, room in-loop, l .inv .3) in
-    (omega arith, omega arith, w, ap length (w .1) ∙ length-laid d (endLines (take (l .k + 1) s)) fits)
+    (w, omega arith, omega arith, ap length (w .1) ∙ length-laid d (endLines (take (l .k + 1) s)) fits)
 
 same-length : tie.Need-same-length Inv-loop μ-loop
 same-length c = c .before .loop .inv .3
@@ -97,7 +97,7 @@ returns : tie.Need-returns Inv-loop μ-loop
 returns c =
     let l = c .before .loop in
     let s = c .before .before .before .before .args .ends .now in
-    (rw (take-all (l .k) s (omega arith)) at (l .inv .2), omega arith)
+    (rw (take-all (l .k) s (omega arith)) at (l .inv .0), omega arith)
 
 pub write-ends-spec : {M : Type 1} → statement M
 write-ends-spec =

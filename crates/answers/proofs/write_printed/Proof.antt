@@ -2,7 +2,7 @@
 use Prim.Native.Nat.{ℕ}
 use mathlib.Core.Path.{_≡_, sym, ap, _∙_}
 use mathlib.Core.List.{List}
-use lib.ListN.{length, length-take}
+use lib.ListN.{length, replicate, length-take}
 use lib.Seq.{length-take-le}
 use native.Mathlib.Omega.{arith}
 use Rattle.writing.specs.Laid.{laid}
@@ -112,9 +112,9 @@ returns c =
     let a = start p .args in
     let told = known .length .given .1 in
     let left = p .print .ensures in
-    let text = left .1 .0 ∙ ap (λ (o : Outcome). written o _ (printedText (a .fmt .now) (a .row .now))) told in
-    let ends = left .1 .1 .0 ∙ ap (λ (o : Outcome). written o _ (endsFrom 0 (texts (a .fmt .now) (a .row .now)))) told in
-    let e = accepted-answer (a .fmt .now) (a .row .now) _ _ (ok known) _ _ _ _ text ends in
+    let text = left .1 .0 ∙ ap (λ (o : Outcome). written o (replicate room 0) (printedText (a .fmt .now) (a .row .now))) told in
+    let ends = left .1 .1 .0 ∙ ap (λ (o : Outcome). written o (replicate slots 0) (endsFrom 0 (texts (a .fmt .now) (a .row .now)))) told in
+    let e = accepted-answer (a .fmt .now) (a .row .now) _ _ (ok known) (replicate room 0) (replicate slots 0) _ _ text ends in
     same-wrote (a .out .now) e (wrote .write-accepted .ensures)
 
 same-length-2 : tie.Need-same-length-2
