@@ -1,3 +1,2 @@
 mod Lengths
-mod Chained
 pub mod Padded

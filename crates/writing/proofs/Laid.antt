@@ -22,6 +22,11 @@ pub length-laid : (d t : List ℕ) → length t ≤ length d → length (laid d 
 unfolding laid
 length-laid d t h = simp (length-append, length-drop) (omega arith)
 
+-- what a text was laid over has the whole of it
+pub text-within : (d t : List ℕ) → length t ≤ length (laid d t)
+unfolding laid
+text-within d t = simp length-append (omega arith)
+
 -- one byte more
 pub laid-more : (d t : List ℕ) (n b : ℕ) → length t ≡ n → n < length d → set (laid d t) n b ≡ laid d (t ++ (b ∷ []))
 unfolding laid

@@ -1,4 +1,5 @@
 pub mod Laid
+pub mod Chained
 pub mod FromRight
 pub mod Backwards
 pub mod Choose

@@ -5,9 +5,9 @@ use mathlib.Core.Path.{refl}
 use mathlib.Core.List.{List, append-assoc}
 use lib.ListN.{replicate, length-take, length-drop}
 use native.Mathlib.Omega.{arith}
+use Rattle.writing.proofs.Chained.{wrote-fill, wrote-two, wrote-three}
 use Rattle.layout.specs.Frame.{opening, prefixText, spaces, headText}
 use Rattle.layout.proofs.Lengths.{head-length}
-use Rattle.layout.proofs.Chained.{wrote-fill, wrote-two, wrote-three}
 use borrow.Author.Needs.{needs}
 use Rattle.layout.proofs.write_head.Statement.{statement}
 use Rattle.layout.proofs.write_head.Tie as tie

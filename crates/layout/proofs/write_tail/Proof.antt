@@ -1,9 +1,9 @@
 -- `layout::write_tail` meets its contract. Assumes nothing.
 use lib.ListN.{length-take, length-drop}
 use native.Mathlib.Omega.{arith}
+use Rattle.writing.proofs.Chained.{wrote-fill, wrote-two}
 use Rattle.layout.specs.Frame.{closing, spaces, tailText}
 use Rattle.layout.proofs.Lengths.{tail-length}
-use Rattle.layout.proofs.Chained.{wrote-fill, wrote-two}
 use borrow.Author.Needs.{needs}
 use Rattle.layout.proofs.write_tail.Statement.{statement}
 use Rattle.layout.proofs.write_tail.Tie as tie

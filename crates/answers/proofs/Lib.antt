@@ -1,0 +1,3 @@
+mod Lines
+mod Parts
+mod Printed
