@@ -22,7 +22,7 @@ use Rattle.causes.specs.Calls.{Call, checking, measuring, printing, OfRo
 use Rattle.causes.specs.Causes.{BadInput, many-kinds, no-kind, broken-row}
 
 -- every kind that is listed is known
-kind-known : (k : ℕ) → has kinds k ≡ true → isKnown (kindOf k) ≡ true
+pub kind-known : (k : ℕ) → has kinds k ≡ true → isKnown (kindOf k) ≡ true
 unfolding all kindOf
 kind-known k h = all-has (λ k. isKnown (kindOf k)) kinds k refl h
 

@@ -3,3 +3,4 @@ mod Stops
 mod Inputs
 mod Refused
 pub mod Causes
+pub mod Rows

@@ -37,12 +37,12 @@ use Rattle.causes.proofs.Stops.{HasKind, none-stops, first-stops}
 
 -- checking, test by test
 module _ (s ks : List ℕ) where
-  long-checked : mostFormat < length s → checked s ks ≡ C.Refused 1 0
+  pub long-checked : mostFormat < length s → checked s ks ≡ C.Refused 1 0
   unfolding checked
   long-checked h = simp (lt-ltb mostFormat (length s) h)
 
   module _ (short : length s ≤ mostFormat) where
-    malformed-checked : wellFormed s ≡ false → checked s ks ≡ C.Refused 2 0
+    pub malformed-checked : wellFormed s ≡ false → checked s ks ≡ C.Refused 2 0
     unfolding checked
     malformed-checked f = simp (le-ltb mostFormat (length s) short, f)
 
@@ -57,12 +57,12 @@ module _ (s ks : List ℕ) where
 
 -- measuring, test by test; printing answers a refusal of measuring
 module _ (s row : List ℕ) where
-  long-measured : mostFormat < length s → measured s row ≡ Refused 1 0
+  pub long-measured : mostFormat < length s → measured s row ≡ Refused 1 0
   unfolding measured
   long-measured h = simp (lt-ltb mostFormat (length s) h)
 
   module _ (short : length s ≤ mostFormat) where
-    malformed-measured : wellFormed s ≡ false → measured s row ≡ Refused 2 0
+    pub malformed-measured : wellFormed s ≡ false → measured s row ≡ Refused 2 0
     unfolding measured
     malformed-measured f = simp (le-ltb mostFormat (length s) short, f)
 
@@ -71,7 +71,7 @@ module _ (s row : List ℕ) where
       unfolding measured
       broken-measured b = simp (le-ltb mostFormat (length s) short, formed, b)
 
-      read-measured : isRow row ≡ true → measured s row ≡ measuredEnd s row (ended s (kindsOf row))
+      pub read-measured : isRow row ≡ true → measured s row ≡ measuredEnd s row (ended s (kindsOf row))
       unfolding measured
       read-measured k = simp (le-ltb mostFormat (length s) short, formed, k)
 

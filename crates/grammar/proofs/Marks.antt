@@ -31,7 +31,7 @@ use Rattle.parsing.specs.declared.Step.the-variants.{Found, Refused}
 abbrev pub unmarked : List ℕ → List ℕ
 unmarked ks = map (λ k. k % 128) ks
 
-as-many : (ks : List ℕ) → length (unmarked ks) ≡ length ks
+pub as-many : (ks : List ℕ) → length (unmarked ks) ≡ length ks
 as-many [] = refl
 as-many (k ∷ ks) = ap suc (as-many ks)
 
