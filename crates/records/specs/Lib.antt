@@ -1,0 +1,3 @@
+pub mod Records
+pub mod Comparing
+pub mod Verdicts
