@@ -116,3 +116,7 @@ module _ (holds : Record → Bool) (s : List ℕ) where
           let p : passes (left holds s t) ≡ 0 = ap passes l in
           let f : failures (left holds s t) ≡ 1 = ap failures l in
           record { passing = omega (arith, c .passing, p); failing = omega (arith, c .failing, f) }
+
+pub verdict-at : (b : Bool) (next : ℕ) (t : Tally) → withVerdict b next t .at ≡ next
+verdict-at true next t = refl
+verdict-at false next t = refl
