@@ -13,7 +13,7 @@ import sys
 HERE = os.path.dirname(os.path.abspath(__file__))
 OUT = os.path.join(HERE, "..", "..", "crates", "vectors", "data", "print.vec")
 
-# What the program's array holds.
+# What the program takes.
 ROOM = 262143
 
 # ---------------------------------------------------------------------------------------------------------------------------------------------

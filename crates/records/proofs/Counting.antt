@@ -8,7 +8,8 @@ use borrow.Author.Tests.{lt-ltb, le-ltb}
 use lib.Dec.{ltb}
 use lib.ListN.{length}
 use Rattle.writing.specs.Choose.{choose}
-use Rattle.records.specs.Records.{recordAt, FoundLies}
+use Rattle.records.specs.Records.{recordAt}
+use Rattle.records.specs.Places.{FoundLies}
 use Rattle.records.specs.Verdicts.{verdictOf, verdictsFrom, verdicts, passes, failures, Counts, withVerdict}
 use Rattle.records.specs.declared.Record.{Record}
 use Rattle.records.specs.declared.Found.{Found}

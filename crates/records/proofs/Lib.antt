@@ -1,3 +1,3 @@
 pub mod Comparing
 pub mod Counting
-mod Lying
+mod Places

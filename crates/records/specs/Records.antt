@@ -1,6 +1,6 @@
 -- The records of a list of vectors: where the parts of one lie, and what it says that a call answers. crates/vectors/README.md has the layout.
-use Prim.Native.Nat.{ℕ, _+_, _*_, _-_, _≤_, _<_}
-use mathlib.Core.Bool.{Bool, true, false, _||_}
+use Prim.Native.Nat.{ℕ, _+_, _*_, _-_}
+use mathlib.Core.Bool.{_||_}
 use mathlib.Core.List.{List}
 use lib.Dec.{eqb, leb, ltb}
 use lib.ListN.{length, getD, take, drop}
@@ -24,15 +24,15 @@ between from to s = take (to - from) (drop from s)
 unfoldable pub partEnd : List ℕ → ℕ → End
 partEnd s at = choose (leb (at + 2 + wordAt 2 s at) (length s)) (λ _. At (at + 2 + wordAt 2 s at)) (λ _. Outside)
 
--- "accepted": pieces and largest argument index, two bytes each.
+-- Checking that accepts: pieces and largest argument index, two bytes each.
 unfoldable pub acceptsAt : List ℕ → ℕ → Read
 acceptsAt s at = choose (leb (at + 4) (length s)) (λ _. AWhole (Accepts (wordAt 2 s at) (wordAt 2 s (at + 2))) (at + 4)) (λ _. ABroken)
 
--- "refused": number in one byte, place in two.
+-- A refusal: number in one byte, place in two.
 unfoldable pub refusesAt : List ℕ → ℕ → Read
 refusesAt s at = choose (leb (at + 3) (length s)) (λ _. AWhole (Refuses (getD s at 0) (wordAt 2 s (at + 1))) (at + 3)) (λ _. ABroken)
 
--- "printed": the text as a part, a count in two bytes, and as many ends of four bytes.
+-- Printing that accepts: the text as a part, a count in two bytes, and as many ends of four bytes.
 unfoldable pub endsAt : List ℕ → ℕ → End → Read
 endsAt s text (At end) =
     choose (leb (end + 2 + 4 * wordAt 2 s end) (length s))
@@ -75,28 +75,3 @@ formatOf s r = between (r .format) (r .values - 2) s
 
 abbrev pub valuesOf : List ℕ → Record → List ℕ
 valuesOf s r = between (r .values) (r .tag) s
-
--- What follows from this of the places, for who reads the parts: each lies in the list, behind the one before.
-abbrev pub EndLies : List ℕ → ℕ → End → Type 0
-EndLies s at (At end) = (at + 2 ≤ end) × (end ≤ length s)
-EndLies s at Outside = Unit {0}
-
-abbrev pub TextLies : ℕ → Stated → Type 0
-TextLies n (Accepts pieces largest) = Unit {0}
-TextLies n (Prints text end pieces) = (text ≤ end) × (end + 2 + 4 * pieces ≤ n)
-TextLies n (Refuses number place) = Unit {0}
-
-abbrev pub ReadLies : List ℕ → ℕ → Read → Type 0
-ReadLies s at (AWhole stated next) = (at < next) × (next ≤ length s) × (TextLies (length s) stated)
-ReadLies s at ABroken = Unit {0}
-
-pub record Lies (n : ℕ) (r : Record) : Type 0 where
-  pub format-in : r .format + 2 ≤ r .values
-  pub values-in : r .values ≤ r .tag
-  pub tag-in : r .tag < r .next
-  pub in-list : r .next ≤ n
-  pub text-in : TextLies n (r .stated)
-
-abbrev pub FoundLies : List ℕ → ℕ → Found → Type 0
-FoundLies s at (Whole r) = (at < r .next) × (Lies (length s) r)
-FoundLies s at Broken = Unit {0}

@@ -2,9 +2,9 @@
 ghost use mathlib.Core.Path.{_≡_};
 ghost use Prim.Native.Nat.{_+_, _*_, _≤_, _<_};
 ghost use mathlib.Core.Bool.{false};
-ghost use lib.ListN.{length, getD};
-ghost use Rattle.records.specs.Records.{partEnd, acceptsAt, refusesAt, endsAt, printsAt, statedAt, recordAt, EndLies, ReadLies, FoundLies, TextLies};
-ghost use Rattle.records.specs.Records.{between};
+ghost use lib.ListN.{length};
+ghost use Rattle.records.specs.Records.{partEnd, acceptsAt, refusesAt, endsAt, printsAt, statedAt, recordAt};
+ghost use Rattle.records.specs.Places.{EndLies, TextLies, ReadLies, FoundLies};
 ghost use Rattle.records.specs.Comparing.{sameList, fours, statesAccepted, statesRefused, statesPrinted};
 ghost use Rattle.records.specs.Verdicts.{withVerdict};
 ghost use Rattle.records.specs.declared.End.the-variants.{At};

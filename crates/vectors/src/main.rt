@@ -9,7 +9,7 @@ use records::Tally;
 ghost use mathlib.Core.Path.{_≡_};
 ghost use Prim.Native.Nat.{_+_, _≤_, _<_};
 ghost use lib.ListN.{length};
-ghost use Rattle.records.specs.Records.{TextLies, Lies};
+ghost use Rattle.records.specs.Places.{TextLies, Lies};
 ghost use Rattle.records.specs.Verdicts.{verdicts, Counts, withVerdict};
 ghost use Rattle.vectors.specs.Right.{statesChecked, checksRight, printsRight, isRight};
 ghost use Rattle.vectors.specs.Left.{statesLeft, InRoom};

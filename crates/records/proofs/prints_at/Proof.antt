@@ -2,7 +2,7 @@
 use Prim.Native.Nat.{_+_}
 use native.Mathlib.Omega.{arith}
 use Rattle.records.specs.Records.{printsAt, endsAt}
-use Rattle.records.proofs.Lying.{lies-before}
+use Rattle.records.proofs.Places.{lies-before}
 use borrow.Author.Needs.{needs}
 use Rattle.records.proofs.prints_at.Statement.{statement}
 use Rattle.records.proofs.prints_at.Tie as tie

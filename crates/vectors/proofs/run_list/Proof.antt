@@ -4,7 +4,8 @@ use mathlib.Core.Path.{_≡_, sym, ap, _∙_}
 use native.Mathlib.Omega.{arith}
 use mathlib.Core.Bool.{false}
 use lib.ListN.{length}
-use Rattle.records.specs.Records.{recordAt, FoundLies}
+use Rattle.records.specs.Records.{recordAt}
+use Rattle.records.specs.Places.{FoundLies}
 use Rattle.records.specs.Verdicts.{withVerdict}
 use Rattle.records.specs.declared.Tally.{Tally}
 use Rattle.records.specs.declared.Found.the-variants.{Whole}
