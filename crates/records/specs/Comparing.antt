@@ -3,6 +3,7 @@ use Prim.Native.Nat.{ℕ, zero, suc, _+_, _-_}
 use mathlib.Core.Bool.{Bool, true, false, _&&_}
 use mathlib.Core.List.{List, [], _∷_}
 use lib.Dec.{eqb}
+use lib.ListN.{length}
 use Rattle.numerals.specs.LittleEndian.{wordAt}
 use Rattle.records.specs.Records.{between}
 use Rattle.records.specs.declared.Stated.{Stated}
@@ -32,9 +33,13 @@ statesRefused (Accepts p l) number place = false
 statesRefused (Prints text end count) number place = false
 statesRefused (Refuses n p) number place = eqb number n && eqb place p
 
--- That printing accepts, with this length, so many pieces, this text and these ends.
+-- That printing accepts, with n bytes, so many pieces, this text and these ends.
 abbrev pub statesPrinted : List ℕ → Stated → ℕ → ℕ → List ℕ → List ℕ → Bool
-statesPrinted s (Accepts p l) length pieces text ends = false
-statesPrinted s (Prints from to count) length pieces text ends =
-    eqb length (to - from) && eqb pieces count && sameList text (between from to s) && sameList ends (fours s (to + 2) count)
-statesPrinted s (Refuses n p) length pieces text ends = false
+statesPrinted s (Accepts p l) n pieces text ends = false
+statesPrinted s (Prints from to count) n pieces text ends =
+    eqb n (to - from) && eqb pieces count && sameList text (between from to s) && sameList ends (fours s (to + 2) count)
+statesPrinted s (Refuses number place) n pieces text ends = false
+
+-- That printing accepts with this text and these ends, and as many bytes and pieces as these have.
+abbrev pub statesWhole : List ℕ → Stated → List ℕ → List ℕ → Bool
+statesWhole s stated text ends = statesPrinted s stated (length text) (length ends) text ends

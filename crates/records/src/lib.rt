@@ -5,7 +5,7 @@ ghost use mathlib.Core.Bool.{false};
 ghost use lib.ListN.{length};
 ghost use Rattle.records.specs.Records.{partEnd, acceptsAt, refusesAt, endsAt, printsAt, statedAt, recordAt};
 ghost use Rattle.records.specs.Places.{EndLies, TextLies, ReadLies, FoundLies};
-ghost use Rattle.records.specs.Comparing.{sameList, fours, statesAccepted, statesRefused, statesPrinted};
+ghost use Rattle.records.specs.Comparing.{sameList, fours, statesAccepted, statesRefused, statesWhole};
 ghost use Rattle.records.specs.Verdicts.{withVerdict};
 ghost use Rattle.records.specs.declared.End.the-variants.{At};
 ghost use Rattle.records.specs.declared.Stated.the-variants.{Prints};
@@ -284,7 +284,7 @@ fn is_same_ends(ends: &[u32], list: &[u8], at: usize) -> bool
 // Whether a text and ends are those that a record has: the text between two places, and behind it so many ends.
 fn is_left(list: &[u8], from: usize, end: usize, pieces: usize, text: &[u8], ends: &[u32]) -> bool
     requires { ⌜ (from ≤ end) × (end + 2 + 4 * pieces ≤ length (now list)) ⌝ }
-    ensures { λ r. ⌜ r ≡ statesPrinted (now (list .entry)) (Prints from end pieces) (length (now (text .entry))) (length (now (ends .entry))) (now (text .entry)) (now (ends .entry)) ⌝ }
+    ensures { λ r. ⌜ r ≡ statesWhole (now (list .entry)) (Prints from end pieces) (now (text .entry)) (now (ends .entry)) ⌝ }
 {
     if text.len() != end - from {
         return false;
@@ -301,7 +301,7 @@ fn is_left(list: &[u8], from: usize, end: usize, pieces: usize, text: &[u8], end
 // Whether a record states that printing accepts and leaves this text and these ends.
 pub fn is_printed(list: &[u8], stated: Stated, text: &[u8], ends: &[u32]) -> bool
     requires { ⌜ TextLies (length (now list)) stated ⌝ }
-    ensures { λ r. ⌜ r ≡ statesPrinted (now (list .entry)) stated (length (now (text .entry))) (length (now (ends .entry))) (now (text .entry)) (now (ends .entry)) ⌝ }
+    ensures { λ r. ⌜ r ≡ statesWhole (now (list .entry)) stated (now (text .entry)) (now (ends .entry)) ⌝ }
 {
     match stated {
         Stated::Accepts {

@@ -10,7 +10,8 @@ use Rattle.records.proofs.is_same_ends.Statement.{statement}
 use Rattle.records.proofs.is_same_ends.Tie as tie
 
 abbrev Inv-loop : tie.InvT-loop
-Inv-loop ends list at i₀ i = (i ≤ length ends) × (sameList ends (fours list at (length ends)) ≡ sameList (drop i ends) (fours list (at + 4 * i) (length ends - i)))
+Inv-loop ends list at i₀ i =
+    (i ≤ length ends) × (sameList ends (fours list at (length ends)) ≡ sameList (drop i ends) (fours list (at + 4 * i) (length ends - i)))
 
 abbrev μ-loop : tie.MeasureT-loop
 μ-loop ends list at i₀ i = length ends - i
