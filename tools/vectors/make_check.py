@@ -13,8 +13,8 @@ import sys
 HERE = os.path.dirname(os.path.abspath(__file__))
 OUT = os.path.join(HERE, "..", "..", "crates", "vectors", "data", "check.vec")
 
-# What the program's array holds.
-ROOM = 131072
+# What the program takes.
+ROOM = 262143
 
 # ---------------------------------------------------------------------------------------------------------------------------------------------
 # The model of checking.
@@ -144,7 +144,7 @@ def check(fmt, kinds):
 # The records.
 
 def record(fmt, kinds, answer):
-    out = len(fmt).to_bytes(2, "little") + fmt + bytes([len(kinds)]) + bytes(kinds)
+    out = len(fmt).to_bytes(2, "little") + fmt + len(kinds).to_bytes(2, "little") + bytes(kinds)
     if answer[0] == "ok":
         return out + bytes([0]) + answer[1].to_bytes(2, "little") + answer[2].to_bytes(2, "little")
     return out + bytes([1, answer[1]]) + answer[2].to_bytes(2, "little")
@@ -504,7 +504,7 @@ def main():
         group(r)
     data = b"".join(record(*one) for one in r.all)
     if len(data) > ROOM:
-        sys.exit("%d bytes, and the program's array has %d" % (len(data), ROOM))
+        sys.exit("%d bytes, and the program takes %d" % (len(data), ROOM))
     os.makedirs(os.path.dirname(OUT), exist_ok=True)
     with open(OUT, "wb") as f:
         f.write(data)

@@ -13,7 +13,7 @@ import sys
 HERE = os.path.dirname(os.path.abspath(__file__))
 OUT = os.path.join(HERE, "..", "..", "crates", "vectors", "data", "print.vec")
 
-# What the program's array holds.
+# What the program takes.
 ROOM = 262143
 
 # ---------------------------------------------------------------------------------------------------------------------------------------------
@@ -105,15 +105,11 @@ class Records:
         """Printed: the text of each piece."""
         texts = [as_bytes(piece) for piece in pieces]
         ends = [len(b"".join(texts[:k + 1])) for k in range(len(texts))]
-        answer = bytes([0]) + two(sum(map(len, texts))) + b"".join(texts) + two(len(ends))
+        answer = bytes([2]) + two(sum(map(len, texts))) + b"".join(texts) + two(len(ends))
         self.add(fmt, values, answer + b"".join(end.to_bytes(4, "little") for end in ends))
 
-    def refused(self, fmt, values):
-        """Refused, whatever the number."""
-        self.add(fmt, values, bytes([1]))
-
     def no(self, fmt, values, number, place=0):
-        self.add(fmt, values, bytes([2, number]) + two(place))
+        self.add(fmt, values, bytes([3, number]) + two(place))
 
 
 # ---------------------------------------------------------------------------------------------------------------------------------------------
@@ -391,9 +387,12 @@ def formats(r):
     r.no("x%%%n%q", [i8(1)], 10, 5)
     r.no(b"\xff", [], 2)
     r.no(b"%q\xc3", [i8(1)], 2)
-    for fmt in ("%q", "%<s", "%-0d", "%s"):
-        r.refused(fmt, [])
-    r.refused("%a", [i8(1)])
+    # Without a value 4 and 7 come before what flags and letters refuse; %a fits an integer, and is not printed for it.
+    r.no("%q", [], 7)
+    r.no("%<s", [], 4)
+    r.no("%-0d", [], 7)
+    r.no("%s", [], 7)
+    r.no("%a", [i8(1)], 15)
 
 
 def good_rows(r):

@@ -1,2 +1,1 @@
-mod Compared
-mod Claims
+mod Answers

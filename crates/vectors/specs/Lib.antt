@@ -1,2 +1,2 @@
-pub mod Records
-pub mod Prints
+pub mod Right
+pub mod Left

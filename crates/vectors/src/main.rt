@@ -1,157 +1,87 @@
-// Runs the lists of vectors in its folder, and compares each answer with the record's own. This file has the list of formats checked against kinds, and
-// what the lists share; prints.rt has the lists of printed answers.
-mod prints;
-
+// Runs the lists of vectors in its folder: each record's call is made, and its answer compared with the one that the record states.
 use libc::STDOUT_FILENO;
 use parsing::Checked;
+use outcomes::Outcome;
+use records::Found;
+use records::Record;
+use records::Stated;
+use records::Tally;
 ghost use mathlib.Core.Path.{_≡_};
-ghost use Prim.Native.Nat.{_+_, _-_, _≤_, _<_};
+ghost use Prim.Native.Nat.{_+_, _≤_, _<_};
 ghost use lib.ListN.{length};
-ghost use Rattle.parsing.specs.Check.{checked};
-ghost use Rattle.parsing.specs.declared.Checked.the-variants.{Accepted, Refused};
-ghost use Rattle.vectors.specs.Records.{between, RecordIs, ExpectedIs, Same, Onward};
+ghost use Rattle.records.specs.Places.{TextLies, Lies};
+ghost use Rattle.records.specs.Verdicts.{verdicts, Counts, withVerdict};
+ghost use Rattle.vectors.specs.Right.{statesChecked, checksRight, printsRight, isRight};
+ghost use Rattle.vectors.specs.Left.{statesLeft, InRoom};
 
-// Where the parts of a record lie: the format up to the byte before the kinds, the kinds up to the answer.
-pub enum CheckRecord {
-    Whole {
-        format: usize,
-        kinds: usize,
-        answer: usize,
-    },
-    Broken,
-}
-
-// The answer that a record expects, and the place behind it.
-pub enum Expected {
-    Answer { checked: Checked, next: usize },
-    Broken,
-}
-
-// Where a list stands: the next record's place, and the records so far that were answered as expected, and otherwise.
-pub struct Tally {
-    pub at: usize,
-    pub passed: usize,
-    pub failed: usize,
-}
-
-pub enum Turn {
-    On(Tally),
-    Broken,
-}
-
-fn wide(x: u8) -> usize
-    ensures { λ r. ⌜ (r ≡ x) × (r < 256) ⌝ }
+// Whether a record states what checking answered.
+fn is_answered(stated: Stated, found: Checked) -> bool
+    ensures { λ r. ⌜ r ≡ statesChecked stated found ⌝ }
 {
-    x as usize
-}
-
-// The parts of the record at a place.
-fn record_at(list: &[u8], at: usize) -> CheckRecord
-    requires { ⌜ at < length (now list) ⌝ }
-    ensures { λ r. ⌜ RecordIs (now (list .entry)) at r ⌝ }
-{
-    let left = list.len() - at;
-    if left < 4 {
-        return CheckRecord::Broken;
-    }
-    let n = numerals::little_endian::two(list, at) as usize;
-    if left - 3 <= n {
-        return CheckRecord::Broken;
-    }
-    let kinds = at + 3 + n;
-    let k = wide(list[kinds - 1]);
-    if list.len() - kinds <= k {
-        return CheckRecord::Broken;
-    }
-    CheckRecord::Whole {
-        format: at + 2,
-        kinds: kinds,
-        answer: kinds + k,
+    match found {
+        Checked::Accepted { pieces, largest } => records::is_accepted(stated, pieces, largest),
+        Checked::Refused { number, place } => records::is_refused(stated, number, place),
     }
 }
 
-// The answer at a place: 0, pieces, largest; or 1, number, place.
-fn expected_at(list: &[u8], at: usize) -> Expected
-    requires { ⌜ at < length (now list) ⌝ }
-    ensures { λ r. ⌜ ExpectedIs (now (list .entry)) at r ⌝ }
+// Whether a record of checking states what its format, checked against its kinds, gives.
+fn checks_right(list: &[u8], rec: Record) -> bool
+    requires { ⌜ Lies (length (now list)) rec ⌝ }
+    ensures { λ r. ⌜ r ≡ checksRight (now (list .entry)) rec ⌝ }
 {
-    let left = list.len() - at;
-    let tag = list[at];
-    if tag == 0 {
-        if left < 5 {
-            return Expected::Broken;
+    let format = rec.format;
+    let values = rec.values;
+    let tag = rec.tag;
+    let stated = rec.stated;
+    let found = printing::check(&list[format..values - 2], &list[values..tag]);
+    is_answered(stated, found)
+}
+
+// Whether a record states what printing answered and left.
+fn is_left(list: &[u8], stated: Stated, found: Outcome, out: &[u8], ends: &[u32]) -> bool
+    requires { ⌜ (TextLies (length (now list)) stated) × (InRoom found (length (now out)) (length (now ends))) ⌝ }
+    ensures { λ r. ⌜ r ≡ statesLeft (now (list .entry)) stated (now (out .entry)) (now (ends .entry)) found ⌝ }
+{
+    match found {
+        Outcome::Accepted { length, pieces } => {
+            let n = length as usize;
+            let k = pieces as usize;
+            records::is_printed(list, stated, &out[..n], &ends[..k])
         }
-        return Expected::Answer {
-            checked: Checked::Accepted {
-                pieces: numerals::little_endian::two(list, at + 1) as usize,
-                largest: numerals::little_endian::two(list, at + 3) as usize,
-            },
-            next: at + 5,
-        };
-    }
-    if 1 < tag {
-        return Expected::Broken;
-    }
-    if left < 4 {
-        return Expected::Broken;
-    }
-    Expected::Answer {
-        checked: Checked::Refused {
-            number: list[at + 1],
-            place: numerals::little_endian::two(list, at + 2) as usize,
-        },
-        next: at + 4,
+        Outcome::Refused { number, place } => records::is_refused(stated, number, place),
     }
 }
 
-fn is_accepted(c: Checked, p: usize, l: usize) -> bool
-    ensures { λ r. ⌜ Same r c (Accepted p l) ⌝ }
+// Whether a record of printing states what its row, printed under its format, gives.
+fn prints_right(list: &[u8], rec: Record) -> bool
+    requires { ⌜ Lies (length (now list)) rec ⌝ }
+    ensures { λ r. ⌜ r ≡ printsRight (now (list .entry)) rec ⌝ }
 {
-    match c {
-        Checked::Accepted { pieces, largest } => {
-            if pieces != p {
-                return false;
-            }
-            if largest != l {
-                return false;
-            }
-            true
-        }
-        Checked::Refused {
-            number: _,
-            place: _,
-        } => false,
-    }
+    let format = rec.format;
+    let values = rec.values;
+    let tag = rec.tag;
+    let stated = rec.stated;
+    let mut out = [0u8; 2048];
+    let mut ends = [0u32; 512];
+    let found = printing::print(
+        &list[format..values - 2],
+        &list[values..tag],
+        &mut out,
+        &mut ends,
+    );
+    is_left(list, stated, found, &out, &ends)
 }
 
-fn is_refused(c: Checked, n: u8, p: usize) -> bool
-    ensures { λ r. ⌜ Same r c (Refused n p) ⌝ }
+// Whether a record states what its call gives.
+fn is_right(list: &[u8], rec: Record) -> bool
+    requires { ⌜ Lies (length (now list)) rec ⌝ }
+    ensures { λ r. ⌜ r ≡ isRight (now (list .entry)) rec ⌝ }
 {
-    match c {
-        Checked::Accepted {
-            pieces: _,
-            largest: _,
-        } => false,
-        Checked::Refused { number, place } => {
-            if number != n {
-                return false;
-            }
-            if place != p {
-                return false;
-            }
-            true
-        }
+    let prints = rec.prints;
+    if prints {
+        return prints_right(list, rec);
     }
-}
-
-// Whether two answers are the same.
-fn is_same(a: Checked, b: Checked) -> bool
-    ensures { λ r. ⌜ Same r a b ⌝ }
-{
-    match b {
-        Checked::Accepted { pieces, largest } => is_accepted(a, pieces, largest),
-        Checked::Refused { number, place } => is_refused(a, number, place),
-    }
+    checks_right(list, rec)
 }
 
 // Writes a text, a number and another text.
@@ -161,79 +91,32 @@ fn say(text: &[u8], n: usize, rest: &[u8]) {
     io::write_all(STDOUT_FILENO, rest);
 }
 
-// Names a record that was answered otherwise, for the first 20 of a list.
-fn report(name: &[u8], number: usize, failed: usize) {
-    if failed < 20 {
+// Names a record that differs, for as many of a list as are to be named.
+fn report(name: &[u8], t: Tally, named: usize)
+    requires { ⌜ t .passed + t .failed < 18446744073709551615 ⌝ }
+{
+    if t.failed < named {
         io::write_all(STDOUT_FILENO, name);
-        say(b": record ", number, b" differs\n");
+        say(b": record ", t.passed + t.failed + 1, b" differs\n");
     }
-}
-
-// One record more.
-fn counted(name: &[u8], t: Tally, next: usize, same: bool) -> Tally
-    requires { ⌜ (t .passed + t .failed ≤ t .at) × (t .at < next) ⌝ }
-    ensures { λ r. ⌜ (r .at ≡ next) × (r .passed + r .failed ≤ next) ⌝ }
-{
-    let passed = t.passed;
-    let failed = t.failed;
-    if same {
-        return Tally {
-            at: next,
-            passed: passed + 1,
-            failed: failed,
-        };
-    }
-    report(name, passed + failed + 1, failed);
-    Tally {
-        at: next,
-        passed: passed,
-        failed: failed + 1,
-    }
-}
-
-// Whether a record's format, checked against its kinds, is answered as expected.
-fn is_answered(list: &[u8], format: usize, kinds: usize, answer: usize, expected: Checked) -> bool
-    requires { ⌜ (format < kinds) × (kinds ≤ answer) × (answer < length (now list)) ⌝ }
-    ensures { λ r. ⌜ Same r (checked (between format (kinds - 1) (now (list .entry))) (between kinds answer (now (list .entry)))) expected ⌝ }
-{
-    let found = printing::check(&list[format..kinds - 1], &list[kinds..answer]);
-    is_same(found, expected)
 }
 
 // The record at the tally's place.
-fn run_record(name: &[u8], list: &[u8], t: Tally) -> Turn
-    requires { ⌜ (t .at < length (now list)) × (t .passed + t .failed ≤ t .at) ⌝ }
-    ensures { λ r. ⌜ Onward (length (now (list .entry))) (t .at) r ⌝ }
+fn run_record(name: &[u8], list: &[u8], rec: Record, t: Tally, named: usize) -> Tally
+    requires { ⌜ (Lies (length (now list)) rec) × (t .passed + t .failed < 18446744073709551615) ⌝ }
+    ensures { λ r. ⌜ r ≡ withVerdict (isRight (now (list .entry)) rec) (rec .next) t ⌝ }
 {
-    let at = t.at;
-    let CheckRecord::Whole {
-        format,
-        kinds,
-        answer,
-    } = record_at(list, at)
-    else {
-        return Turn::Broken;
-    };
-    let Expected::Answer { checked, next } = expected_at(list, answer) else {
-        return Turn::Broken;
-    };
-    let same = is_answered(list, format, kinds, answer, checked);
-    Turn::On(counted(name, t, next, same))
-}
-
-// A record of either layout.
-fn run_turn(name: &[u8], list: &[u8], t: Tally, prints: bool) -> Turn
-    requires { ⌜ (t .at < length (now list)) × (t .passed + t .failed ≤ t .at) ⌝ }
-    ensures { λ r. ⌜ Onward (length (now (list .entry))) (t .at) r ⌝ }
-{
-    if prints {
-        return prints::run_record(name, list, t);
+    let next = rec.next;
+    let right = is_right(list, rec);
+    if !right {
+        report(name, t, named);
     }
-    run_record(name, list, t)
+    records::counted(t, next, right)
 }
 
-// A list from its first record on, to its end or to a record that breaks the layout, which counts as failed.
-fn run_list(name: &[u8], list: &[u8], prints: bool) -> Tally
+// A list from its first record on, to its end or to a record that breaks the layout.
+fn run_list(name: &[u8], list: &[u8], named: usize) -> Tally
+    ensures { λ r. ⌜ Counts (verdicts (isRight (now (list .entry))) (now (list .entry))) r ⌝ }
     ensures { λ r. ⌜ r .passed + r .failed ≤ length (now (list .entry)) ⌝ }
 {
     let mut t = Tally {
@@ -242,19 +125,11 @@ fn run_list(name: &[u8], list: &[u8], prints: bool) -> Tally
         failed: 0,
     };
     while t.at < list.len() {
-        let turn = run_turn(name, list, t, prints);
-        match turn {
-            Turn::On(next) => {
-                t = next;
-            }
-            Turn::Broken => {
-                return Tally {
-                    at: t.at,
-                    passed: t.passed,
-                    failed: t.failed + 1,
-                };
-            }
-        }
+        let at = t.at;
+        let Found::Whole(rec) = records::record_at(list, at) else {
+            return records::broken(t);
+        };
+        t = run_record(name, list, rec, t, named);
     }
     t
 }
@@ -289,7 +164,7 @@ fn unread(name: &[u8]) -> Tally
 }
 
 // The list in a file.
-fn run_file(file: &[u8], name: &[u8], prints: bool) -> Tally
+fn run_file(file: &[u8], name: &[u8], named: usize) -> Tally
     ensures { λ r. ⌜ r .passed + r .failed ≤ 262144 ⌝ }
 {
     let fd = os::open_read(file);
@@ -302,18 +177,20 @@ fn run_file(file: &[u8], name: &[u8], prints: bool) -> Tally
     if n == 262144 {
         return unread(name);
     }
-    let t = run_list(name, &list[..n], prints);
+    let t = run_list(name, &list[..n], named);
     summary(name, t, n);
     t
 }
 
+// The failures of the list of wrong records are wanted, and are neither named nor added up.
 fn main() {
-    let a = run_file(b"check.vec", b"check", false);
-    let b = run_file(b"print.vec", b"print", true);
-    let c = run_file(b"original.vec", b"original", true);
+    let a = run_file(b"check.vec", b"check", 20);
+    let b = run_file(b"print.vec", b"print", 20);
+    let c = run_file(b"original.vec", b"original", 20);
     count_line(
         b"all",
         a.passed + b.passed + c.passed,
         a.failed + b.failed + c.failed,
     );
+    run_file(b"wrong.vec", b"wrong", 0);
 }

@@ -1,49 +1,33 @@
--- `vectors::is_answered` meets its contract: what `check` answers is what `checked` gives. Assumes nothing.
+-- `vectors::is_answered` meets its contract, by cases on the answer. Assumes nothing.
 use borrow.Author.Needs.{needs}
 use Rattle.vectors.proofs.is_answered.Statement.{statement}
 use Rattle.vectors.proofs.is_answered.Tie as tie
 
-sub-check : tie.Need-sub-check
-sub-check c = search needs
+enum-known-found : tie.Need-enum-known-found
+enum-known-found c = search needs
 
-sub-check-2 : tie.Need-sub-check-2
-sub-check-2 c = search needs
+is-accepted-requires : tie.Need-is-accepted-requires
+is-accepted-requires c κs = search needs
 
-part-check-start : tie.Need-part-check-start
-part-check-start c = search needs
+enum-known-found-2 : tie.Need-enum-known-found-2
+enum-known-found-2 c = search needs
 
-part-check-end : tie.Need-part-check-end
-part-check-end c = search needs
-
-sub-check-3 : tie.Need-sub-check-3
-sub-check-3 c = search needs
-
-part-check-start-2 : tie.Need-part-check-start-2
-part-check-start-2 c = search needs
-
-part-check-end-2 : tie.Need-part-check-end-2
-part-check-end-2 c = search needs
-
-check-requires : tie.Need-check-requires
-check-requires c κs = search needs
-
-is-same-requires : tie.Need-is-same-requires
-is-same-requires c κs = search needs
+is-refused-requires : tie.Need-is-refused-requires
+is-refused-requires c κs = search needs
 
 returns : tie.Need-returns
-returns c = simp (← c .before .check .ensures) (c .is-same .ensures)
+returns c = simp (c .before .before .found .given .1) (c .is-accepted .ensures)
+
+returns-2 : tie.Need-returns-2
+returns-2 c = simp (c .before .before .found2 .given .1) (c .is-refused .ensures)
 
 pub is-answered-spec : {M : Type 1} → statement M
 is-answered-spec =
     tie.close
     (tie.spec
-    sub-check
-    sub-check-2
-    part-check-start
-    part-check-end
-    sub-check-3
-    part-check-start-2
-    part-check-end-2
-    check-requires
-    is-same-requires
-    returns)
+    enum-known-found
+    is-accepted-requires
+    enum-known-found-2
+    is-refused-requires
+    returns
+    returns-2)

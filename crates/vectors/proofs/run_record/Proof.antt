@@ -1,90 +1,19 @@
--- `vectors::run_record` meets its contract: the facts of the record and of its answer, read off the answers of `record_at` and `expected_at`. Assumes nothing.
-use Prim.Native.Nat.{ℕ, _≤_, _<_}
-use mathlib.Core.List.{List}
-use lib.ListN.{length}
+-- `vectors::run_record` meets its contract: the verdict is that of `is_right`. Assumes nothing.
 use borrow.Author.Needs.{needs}
-use native.Mathlib.Omega.{arith}
-use Rattle.parsing.specs.declared.Checked.{Checked}
-use Rattle.parsing.specs.declared.Checked.the-variants.{Accepted, Refused}
-use Rattle.vectors.specs.Records.{AnswerIs}
 use Rattle.vectors.proofs.run_record.Statement.{statement}
 use Rattle.vectors.proofs.run_record.Tie as tie
 
--- An answer takes up bytes of the list.
-answer-in : (s : List ℕ) (at : ℕ) (a : Checked) (next : ℕ) → AnswerIs s at a next → (at < next) × (next ≤ length s)
-answer-in s at (Accepted pieces largest) next h = (omega (arith, h), omega (arith, h))
-answer-in s at (Refused number place) next h = (omega (arith, h), omega (arith, h))
+is-right-requires : tie.Need-is-right-requires
+is-right-requires c κs = search needs
 
-record-at-requires : tie.Need-record-at-requires
-record-at-requires c κs = search needs
-
-enum-known-format : tie.Need-enum-known-format
-enum-known-format c = search needs
-
-enum-told : tie.Need-enum-told
-enum-told c = search needs
-
-returns : tie.Need-returns
-returns c = search needs
-
-expected-at-requires : tie.Need-expected-at-requires
-expected-at-requires c κs =
-    let e = c .before .before .before .record-at .ensures in
-    let h = simp (c .before .format .given .1) at e in
-    omega (arith, h)
-
-enum-known-checked : tie.Need-enum-known-checked
-enum-known-checked c = search needs
-
-enum-told-2 : tie.Need-enum-told-2
-enum-told-2 c = search needs
-
-returns-2 : tie.Need-returns-2
-returns-2 c = search needs
-
-is-answered-requires : tie.Need-is-answered-requires
-is-answered-requires c κs =
-    let f = c .before .before .before .before in
-    let e = f .before .before .before .record-at .ensures in
-    let h = simp (f .before .format .given .1) at e in
-    (omega (arith, h), omega (arith, h), omega (arith, h))
-
--- The record ends behind the place where it begins, and in the list.
-behind :
-    (c : tie.After-known-told2) →
-    let start = c .before .before .before .before .before .before .before .before .before .before .args in
-    let next = c .before .checked .given .0 .1 .0 in
-    (start .t .at < next) × (next ≤ length (start .list .now))
-behind c =
-    let f = c .before .before .before .before in
-    let start = f .before .before .before .before .before .before .args in
-    let e = f .before .before .before .record-at .ensures in
-    let h = simp (f .before .format .given .1) at e in
-    let d = c .before .before .before .expected-at .ensures in
-    let g = c .before .checked .given .0 in
-    let answer = f .before .format .given .0 .1 .1 .0 in
-    let k =
-    answer-in (start .list .now) answer (g .0) (g .1 .0) (simp (c .before .checked .given .1) at d) in
-    (omega (arith, h, k), k .1)
+report-requires : tie.Need-report-requires
+report-requires c κs = search needs
 
 counted-requires : tie.Need-counted-requires
-counted-requires c κs = (search needs, behind (c .before) .0)
+counted-requires c κs = search needs
 
-returns-3 : tie.Need-returns-3
-returns-3 c = let k = behind (c .before .before) in (omega (arith, k), omega (arith, k), omega arith)
+returns : tie.Need-returns
+returns c = simp (← c .before .before .is-right .ensures) (c .counted .ensures)
 
 pub run-record-spec : {M : Type 1} → statement M
-run-record-spec =
-    tie.close
-    (tie.spec
-    record-at-requires
-    enum-known-format
-    enum-told
-    returns
-    expected-at-requires
-    enum-known-checked
-    enum-told-2
-    returns-2
-    is-answered-requires
-    counted-requires
-    returns-3)
+run-record-spec = tie.close (tie.spec is-right-requires report-requires counted-requires returns)

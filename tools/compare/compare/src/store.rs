@@ -1,14 +1,17 @@
 //! A sample of the original's answers, for replay. One record after another, numbers little-endian: format length (2
-//! bytes), format, row length (2), row; then 0, text length (2), text, piece count (2), one end of 4 bytes for each
-//! piece; or only 1, where the original refuses.
+//! bytes), format, row length (2), row; then 2, text length (2), text, piece count (2), one end of 4 bytes for each
+//! piece; or 3, number (1), place (2), where the original refuses.
 
 use std::io::{self, Write};
 
-use crate::expect::{Accepted, Expectation, PieceText};
+use crate::expect::{Accepted, Expectation, PieceText, Refusal};
 use crate::generate::Case;
 
 const LONGEST_TEXT: usize = 2_000;
 const LONGEST_ROW: usize = 1_000;
+/// What a record of printing begins its answer with.
+const PRINTED: u8 = 2;
+const REFUSED: u8 = 3;
 
 /// Writes the case where the original alone gives its answer and the sizes are small; tells whether it did.
 pub fn store(file: &mut impl Write, case: &Case, expectation: &Expectation) -> io::Result<bool> {
@@ -24,8 +27,9 @@ pub fn store(file: &mut impl Write, case: &Case, expectation: &Expectation) -> i
 }
 
 fn stored_answer(expectation: &Expectation) -> Option<Vec<u8>> {
-    let Ok(Accepted { printed: Ok(texts), .. }) = &expectation.answer else {
-        return Some(vec![1]);
+    let texts = match &expectation.answer {
+        Ok(Accepted { printed: Ok(texts), .. }) => texts,
+        Ok(Accepted { printed: Err(refusal), .. }) | Err(refusal) => return Some(stored_refusal(refusal)),
     };
     let mut joined = Vec::new();
     let mut ends = Vec::new();
@@ -37,11 +41,17 @@ fn stored_answer(expectation: &Expectation) -> Option<Vec<u8>> {
     if joined.len() > LONGEST_TEXT {
         return None;
     }
-    let mut answer = vec![0];
+    let mut answer = vec![PRINTED];
     write_counted(&mut answer, &joined).expect("a Vec");
     answer.extend((texts.len() as u16).to_le_bytes());
     answer.extend(ends);
     Some(answer)
+}
+
+fn stored_refusal(refusal: &Refusal) -> Vec<u8> {
+    let mut answer = vec![REFUSED, refusal.number as u8];
+    answer.extend((refusal.place as u16).to_le_bytes());
+    answer
 }
 
 fn write_counted(file: &mut impl Write, bytes: &[u8]) -> io::Result<()> {

@@ -1,0 +1,4 @@
+pub mod Records
+pub mod Places
+pub mod Comparing
+pub mod Verdicts

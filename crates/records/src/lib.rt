@@ -1,0 +1,351 @@
+// The records of a list of vectors: one is read, what it states is compared with an answer, and it is counted. crates/vectors/README.md has the layout.
+ghost use mathlib.Core.Path.{_≡_};
+ghost use Prim.Native.Nat.{_+_, _*_, _≤_, _<_};
+ghost use mathlib.Core.Bool.{false};
+ghost use lib.ListN.{length};
+ghost use Rattle.records.specs.Records.{partEnd, acceptsAt, refusesAt, endsAt, printsAt, statedAt, recordAt};
+ghost use Rattle.records.specs.Places.{EndLies, TextLies, ReadLies, FoundLies};
+ghost use Rattle.records.specs.Comparing.{sameList, fours, statesAccepted, statesRefused, statesWhole};
+ghost use Rattle.records.specs.Verdicts.{withVerdict};
+ghost use Rattle.records.specs.declared.End.the-variants.{At};
+ghost use Rattle.records.specs.declared.Stated.the-variants.{Prints};
+
+// Where a part ends.
+pub enum End {
+    At(usize),
+    Outside,
+}
+
+// What a record says that a call answers: checking accepts, with pieces and largest argument index; printing accepts, with the text between two places
+// and behind it so many ends; or a refusal.
+pub enum Stated {
+    Accepts {
+        pieces: usize,
+        largest: usize,
+    },
+    Prints {
+        text: usize,
+        end: usize,
+        pieces: usize,
+    },
+    Refuses {
+        number: u8,
+        place: usize,
+    },
+}
+
+// What is stated at a place, and the place behind it.
+pub enum Read {
+    Whole { stated: Stated, next: usize },
+    Broken,
+}
+
+// A record by its places in the list: the format up to the two bytes before the values, its kinds or its row, these up to the tag. It is of printing, or
+// else of checking.
+pub struct Record {
+    pub prints: bool,
+    pub format: usize,
+    pub values: usize,
+    pub tag: usize,
+    pub stated: Stated,
+    pub next: usize,
+}
+
+pub enum Found {
+    Whole(Record),
+    Broken,
+}
+
+// Where a list stands: the next record's place, and the records so far that hold, and that do not.
+pub struct Tally {
+    pub at: usize,
+    pub passed: usize,
+    pub failed: usize,
+}
+
+fn wide_end(x: u32) -> u64
+    ensures { λ r. ⌜ r ≡ x ⌝ }
+{
+    x as u64
+}
+
+// The end of the part at a place.
+fn part_end(list: &[u8], at: usize) -> End
+    requires { ⌜ at ≤ length (now list) ⌝ }
+    ensures { λ r. ⌜ (r ≡ partEnd (now (list .entry)) at) × (EndLies (now (list .entry)) at r) ⌝ }
+{
+    let left = list.len() - at;
+    if left < 2 {
+        return End::Outside;
+    }
+    let n = numerals::little_endian::two(list, at) as usize;
+    if left - 2 < n {
+        return End::Outside;
+    }
+    End::At(at + 2 + n)
+}
+
+fn accepts_at(list: &[u8], at: usize) -> Read
+    requires { ⌜ at ≤ length (now list) ⌝ }
+    ensures { λ r. ⌜ (r ≡ acceptsAt (now (list .entry)) at) × (ReadLies (now (list .entry)) at r) ⌝ }
+{
+    if list.len() - at < 4 {
+        return Read::Broken;
+    }
+    Read::Whole {
+        stated: Stated::Accepts {
+            pieces: numerals::little_endian::two(list, at) as usize,
+            largest: numerals::little_endian::two(list, at + 2) as usize,
+        },
+        next: at + 4,
+    }
+}
+
+fn refuses_at(list: &[u8], at: usize) -> Read
+    requires { ⌜ at ≤ length (now list) ⌝ }
+    ensures { λ r. ⌜ (r ≡ refusesAt (now (list .entry)) at) × (ReadLies (now (list .entry)) at r) ⌝ }
+{
+    if list.len() - at < 3 {
+        return Read::Broken;
+    }
+    Read::Whole {
+        stated: Stated::Refuses {
+            number: list[at],
+            place: numerals::little_endian::two(list, at + 1) as usize,
+        },
+        next: at + 3,
+    }
+}
+
+// A text that begins at a place and ends at another, and the ends behind it.
+fn ends_at(list: &[u8], text: usize, end: usize) -> Read
+    requires { ⌜ (text ≤ end) × (end ≤ length (now list)) ⌝ }
+    ensures { λ r. ⌜ (r ≡ endsAt (now (list .entry)) text (At end)) × (ReadLies (now (list .entry)) text r) ⌝ }
+{
+    let left = list.len() - end;
+    if left < 2 {
+        return Read::Broken;
+    }
+    let pieces = numerals::little_endian::two(list, end) as usize;
+    if left - 2 < 4 * pieces {
+        return Read::Broken;
+    }
+    Read::Whole {
+        stated: Stated::Prints {
+            text: text,
+            end: end,
+            pieces: pieces,
+        },
+        next: end + 2 + 4 * pieces,
+    }
+}
+
+fn prints_at(list: &[u8], at: usize) -> Read
+    requires { ⌜ at ≤ length (now list) ⌝ }
+    ensures { λ r. ⌜ (r ≡ printsAt (now (list .entry)) at) × (ReadLies (now (list .entry)) at r) ⌝ }
+{
+    let End::At(end) = part_end(list, at) else {
+        return Read::Broken;
+    };
+    ends_at(list, at + 2, end)
+}
+
+// What is stated at a place, behind a tag.
+fn stated_at(list: &[u8], tag: u8, at: usize) -> Read
+    requires { ⌜ at ≤ length (now list) ⌝ }
+    ensures { λ r. ⌜ (r ≡ statedAt (now (list .entry)) tag at) × (ReadLies (now (list .entry)) at r) ⌝ }
+{
+    if tag == 0 {
+        return accepts_at(list, at);
+    }
+    if tag == 2 {
+        return prints_at(list, at);
+    }
+    if tag == 1 {
+        return refuses_at(list, at);
+    }
+    if tag == 3 {
+        return refuses_at(list, at);
+    }
+    Read::Broken
+}
+
+// The record at a place.
+pub fn record_at(list: &[u8], at: usize) -> Found
+    requires { ⌜ at ≤ length (now list) ⌝ }
+    ensures { λ r. ⌜ (r ≡ recordAt (now (list .entry)) at) × (FoundLies (now (list .entry)) at r) ⌝ }
+{
+    let End::At(end) = part_end(list, at) else {
+        return Found::Broken;
+    };
+    let End::At(tag) = part_end(list, end) else {
+        return Found::Broken;
+    };
+    if list.len() <= tag {
+        return Found::Broken;
+    }
+    let Read::Whole { stated, next } = stated_at(list, list[tag], tag + 1) else {
+        return Found::Broken;
+    };
+    Found::Whole(Record {
+        prints: 2 <= list[tag],
+        format: at + 2,
+        values: end + 2,
+        tag: tag,
+        stated: stated,
+        next: next,
+    })
+}
+
+// Whether a record states that checking accepts with these.
+pub fn is_accepted(stated: Stated, pieces: usize, largest: usize) -> bool
+    ensures { λ r. ⌜ r ≡ statesAccepted stated pieces largest ⌝ }
+{
+    match stated {
+        Stated::Accepts {
+            pieces: p,
+            largest: l,
+        } => {
+            if pieces != p {
+                return false;
+            }
+            largest == l
+        }
+        Stated::Prints {
+            text: _,
+            end: _,
+            pieces: _,
+        } => false,
+        Stated::Refuses {
+            number: _,
+            place: _,
+        } => false,
+    }
+}
+
+// Whether a record states a refusal with this number and place.
+pub fn is_refused(stated: Stated, number: u8, place: usize) -> bool
+    ensures { λ r. ⌜ r ≡ statesRefused stated number place ⌝ }
+{
+    match stated {
+        Stated::Accepts {
+            pieces: _,
+            largest: _,
+        } => false,
+        Stated::Prints {
+            text: _,
+            end: _,
+            pieces: _,
+        } => false,
+        Stated::Refuses {
+            number: n,
+            place: p,
+        } => {
+            if number != n {
+                return false;
+            }
+            place == p
+        }
+    }
+}
+
+// Whether two slices hold the same bytes.
+fn is_same_bytes(a: &[u8], b: &[u8]) -> bool
+    ensures { λ r. ⌜ r ≡ sameList (now (a .entry)) (now (b .entry)) ⌝ }
+{
+    if a.len() != b.len() {
+        return false;
+    }
+    let mut i: usize = 0;
+    while i < a.len() {
+        if a[i] != b[i] {
+            return false;
+        }
+        i = i + 1;
+    }
+    true
+}
+
+// Whether ends are as many numbers of four bytes that stand in a list from a place on.
+fn is_same_ends(ends: &[u32], list: &[u8], at: usize) -> bool
+    requires { ⌜ at + 4 * length (now ends) ≤ length (now list) ⌝ }
+    ensures { λ r. ⌜ r ≡ sameList (now (ends .entry)) (fours (now (list .entry)) at (length (now (ends .entry)))) ⌝ }
+{
+    let mut i: usize = 0;
+    while i < ends.len() {
+        if wide_end(ends[i]) != numerals::little_endian::four(list, at + 4 * i) {
+            return false;
+        }
+        i = i + 1;
+    }
+    true
+}
+
+// Whether a text and ends are those that a record has: the text between two places, and behind it so many ends.
+fn is_left(list: &[u8], from: usize, end: usize, pieces: usize, text: &[u8], ends: &[u32]) -> bool
+    requires { ⌜ (from ≤ end) × (end + 2 + 4 * pieces ≤ length (now list)) ⌝ }
+    ensures { λ r. ⌜ r ≡ statesWhole (now (list .entry)) (Prints from end pieces) (now (text .entry)) (now (ends .entry)) ⌝ }
+{
+    if text.len() != end - from {
+        return false;
+    }
+    if ends.len() != pieces {
+        return false;
+    }
+    if is_same_bytes(text, &list[from..end]) {
+        return is_same_ends(ends, list, end + 2);
+    }
+    false
+}
+
+// Whether a record states that printing accepts and leaves this text and these ends.
+pub fn is_printed(list: &[u8], stated: Stated, text: &[u8], ends: &[u32]) -> bool
+    requires { ⌜ TextLies (length (now list)) stated ⌝ }
+    ensures { λ r. ⌜ r ≡ statesWhole (now (list .entry)) stated (now (text .entry)) (now (ends .entry)) ⌝ }
+{
+    match stated {
+        Stated::Accepts {
+            pieces: _,
+            largest: _,
+        } => false,
+        Stated::Prints {
+            text: from,
+            end,
+            pieces,
+        } => is_left(list, from, end, pieces, text, ends),
+        Stated::Refuses {
+            number: _,
+            place: _,
+        } => false,
+    }
+}
+
+// One record more, which holds or does not, and the place behind it.
+pub fn counted(t: Tally, next: usize, holds: bool) -> Tally
+    requires { ⌜ t .passed + t .failed < 18446744073709551615 ⌝ }
+    ensures { λ r. ⌜ r ≡ withVerdict holds next t ⌝ }
+{
+    let passed = t.passed;
+    let failed = t.failed;
+    if holds {
+        return Tally {
+            at: next,
+            passed: passed + 1,
+            failed: failed,
+        };
+    }
+    Tally {
+        at: next,
+        passed: passed,
+        failed: failed + 1,
+    }
+}
+
+// A record that breaks the layout does not hold, and is the last.
+pub fn broken(t: Tally) -> Tally
+    requires { ⌜ t .passed + t .failed < 18446744073709551615 ⌝ }
+    ensures { λ r. ⌜ r ≡ withVerdict false (t .at) t ⌝ }
+{
+    let at = t.at;
+    counted(t, at, false)
+}
