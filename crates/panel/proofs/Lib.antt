@@ -1,2 +1,3 @@
 mod Ends
 mod Slots
+pub mod Answers
