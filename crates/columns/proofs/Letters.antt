@@ -3,8 +3,8 @@ use mathlib.Core.Path.{_≡_, refl}
 use mathlib.Core.Bool.{true, false}
 use Rattle.conversions.specs.Letters.{smallOf, capitalOf}
 use Rattle.conversions.specs.declared.ConversionType.the-variants.{Integer, HexFloat}
-use Rattle.conversions.specs.declared.Radix.{Radix}
-use Rattle.conversions.specs.declared.Radix.the-variants as R
+use Rattle.numerals.specs.declared.Radix.{Radix}
+use Rattle.numerals.specs.declared.Radix.the-variants as R
 use Rattle.conversions.specs.declared.Letter.the-variants.{Conversion}
 use Rattle.columns.specs.Columns.{numeralLetter, floatLetter}
 
