@@ -55,11 +55,12 @@ fn put_padded(out: &mut [u8], e: Element, mark: Mark, text: &[u8]) -> u64
         Prefix::NoPrefix,
         n,
     );
+    let total = framed.added + n;
     if framed.fits {
         let at = framed.at;
         strings::write_cased(&mut out[at..], text, e.upper);
     }
-    framed.total
+    total
 }
 
 // A text, cut to the precision, in capitals or not, padded to the width.

@@ -151,11 +151,12 @@ fn put_framed_numeral(out: &mut [u8], e: Element, n: Numeral) -> u64
         prefix,
         len as u64,
     );
+    let total = framed.added + len as u64;
     if framed.fits {
         let at = framed.at;
         write_numeral(&mut out[at..], n, len);
     }
-    framed.total
+    total
 }
 
 // A numeral, padded to the element's width.
@@ -247,9 +248,10 @@ pub fn format_finite(out: &mut [u8], e: Element, bits: u64) -> u64
         hex_prefix(upper),
         n,
     );
+    let total = framed.added + n;
     if framed.fits {
         let at = framed.at;
         binary64::write_hex_float(&mut out[at..], float, upper);
     }
-    framed.total
+    total
 }
