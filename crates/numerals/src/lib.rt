@@ -1,8 +1,6 @@
 // Whole numbers as text: digits in a base, commas, two's complement.
 // Ported in part from format_string.rs of datafusion-spark 55.2.0 (Apache-2.0; see NOTICE): insert_thousands_separator, and the digit writing of
 // format_unsigned and format_signed.
-pub mod little_endian;
-
 ghost use mathlib.Core.Path.{_≡_};
 ghost use Prim.Native.Nat.{_%_, _^_, _≤_, _<_};
 ghost use lib.IntN.{natAbs};

@@ -5,7 +5,7 @@ use mathlib.Core.List.{List}
 use lib.Dec.{leb}
 use lib.ListN.{length, take, drop}
 use Rattle.writing.specs.Choose.{choose}
-use Rattle.numerals.specs.LittleEndian.{wordAt}
+use Rattle.words.specs.LittleEndian.{wordAt}
 use Rattle.printing.specs.Printing.{texts, printedText, endsFrom, printed, written}
 use Rattle.printing.specs.declared.Outcome.{Outcome}
 use Rattle.printing.specs.declared.Outcome.the-variants.{Accepted, Refused}

@@ -27,7 +27,7 @@ fn parts_of(input: &[u8]) -> Parts
     if input.len() < 2 {
         return Parts::Missing;
     }
-    let n = numerals::little_endian::two(input, 0) as usize;
+    let n = words::two(input, 0) as usize;
     if input.len() - 2 < n {
         return Parts::Missing;
     }

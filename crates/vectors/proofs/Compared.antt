@@ -6,7 +6,7 @@ use native.Mathlib.Omega.{arith}
 use native.Mathlib.Numerals.{add-one}
 use lib.ListN.{length, getD, take}
 use lib.Seq.{take-suc, take-all}
-use Rattle.numerals.specs.LittleEndian.{wordAt}
+use Rattle.words.specs.LittleEndian.{wordAt}
 use Rattle.vectors.specs.Prints.{fours}
 
 -- one byte more

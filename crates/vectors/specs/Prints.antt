@@ -4,7 +4,7 @@ use mathlib.Core.Path.{_≡_}
 use mathlib.Core.Bool.{Bool, true, false}
 use mathlib.Core.List.{List, [], _∷_, _++_}
 use lib.ListN.{length, getD, take}
-use Rattle.numerals.specs.LittleEndian.{wordAt}
+use Rattle.words.specs.LittleEndian.{wordAt}
 use Rattle.printing.specs.Printing.{texts, printedText, endsFrom, printed}
 use Rattle.printing.specs.declared.Outcome.{Outcome}
 use Rattle.printing.specs.declared.Outcome.the-variants.{Accepted, Refused}

@@ -54,7 +54,7 @@ fn record_at(list: &[u8], at: usize) -> CheckRecord
     if left < 4 {
         return CheckRecord::Broken;
     }
-    let n = numerals::little_endian::two(list, at) as usize;
+    let n = words::two(list, at) as usize;
     if left - 3 <= n {
         return CheckRecord::Broken;
     }
@@ -83,8 +83,8 @@ fn expected_at(list: &[u8], at: usize) -> Expected
         }
         return Expected::Answer {
             checked: Checked::Accepted {
-                pieces: numerals::little_endian::two(list, at + 1) as usize,
-                largest: numerals::little_endian::two(list, at + 3) as usize,
+                pieces: words::two(list, at + 1) as usize,
+                largest: words::two(list, at + 3) as usize,
             },
             next: at + 5,
         };
@@ -98,7 +98,7 @@ fn expected_at(list: &[u8], at: usize) -> Expected
     Expected::Answer {
         checked: Checked::Refused {
             number: list[at + 1],
-            place: numerals::little_endian::two(list, at + 2) as usize,
+            place: words::two(list, at + 2) as usize,
         },
         next: at + 4,
     }

@@ -54,12 +54,12 @@ fn record_at(list: &[u8], at: usize) -> PrintRecord
     if left < 5 {
         return PrintRecord::Broken;
     }
-    let n = numerals::little_endian::two(list, at) as usize;
+    let n = words::two(list, at) as usize;
     if left - 5 < n {
         return PrintRecord::Broken;
     }
     let row = at + 4 + n;
-    let m = numerals::little_endian::two(list, row - 2) as usize;
+    let m = words::two(list, row - 2) as usize;
     if list.len() - row <= m {
         return PrintRecord::Broken;
     }
@@ -79,12 +79,12 @@ fn printed_at(list: &[u8], at: usize) -> ClaimRead
     if left < 5 {
         return ClaimRead::Broken;
     }
-    let n = numerals::little_endian::two(list, at + 1) as usize;
+    let n = words::two(list, at + 1) as usize;
     if left - 5 < n {
         return ClaimRead::Broken;
     }
     let ends = at + 5 + n;
-    let pieces = numerals::little_endian::two(list, ends - 2) as usize;
+    let pieces = words::two(list, ends - 2) as usize;
     if list.len() - ends < pieces * 4 {
         return ClaimRead::Broken;
     }
@@ -122,7 +122,7 @@ fn claim_at(list: &[u8], at: usize) -> ClaimRead
     ClaimRead::Read {
         claim: Claim::Refusal {
             number: list[at + 1],
-            place: numerals::little_endian::two(list, at + 2) as usize,
+            place: words::two(list, at + 2) as usize,
         },
         next: at + 4,
     }
@@ -152,7 +152,7 @@ fn is_same_ends(ends: &[u32], list: &[u8], at: usize) -> bool
 {
     let mut i: usize = 0;
     while i < ends.len() {
-        if wide_end(ends[i]) != numerals::little_endian::four(list, at + 4 * i) {
+        if wide_end(ends[i]) != words::four(list, at + 4 * i) {
             return false;
         }
         i = i + 1;
