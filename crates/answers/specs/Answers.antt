@@ -7,7 +7,7 @@ use lib.ListN.{length, take, drop}
 use Rattle.writing.specs.Choose.{choose}
 use Rattle.writing.specs.Text.{ascii}
 use Rattle.numerals.specs.Digits.{decimal}
-use Rattle.numerals.specs.LittleEndian.{wordAt}
+use Rattle.words.specs.LittleEndian.{wordAt}
 use Rattle.outcomes.specs.Printed.{texts, printedText, endsFrom, printed}
 use Rattle.outcomes.specs.declared.Outcome.{Outcome}
 use Rattle.outcomes.specs.declared.Outcome.the-variants.{Accepted, Refused}

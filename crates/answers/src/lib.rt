@@ -1,4 +1,5 @@
 // The whole answer of the program `sheet` to its input, made in a lent slice. crates/sheet/README.md has the layout of both.
+use numerals::Radix;
 use outcomes::Outcome;
 ghost use Prim.Native.Nat.{_+_, _*_, _≤_};
 ghost use lib.ListN.{length};
@@ -13,7 +14,7 @@ fn write_number(out: &mut [u8], x: u64) -> usize
     ensures { λ r. ⌜ Wrote (now (out .entry)) (decimal x) r (now (out .exit)) ⌝ }
 {
     let n = numerals::decimal_len(x);
-    numerals::write_digits(out, x, 10, n, false)
+    numerals::write_digits(out, x, Radix::Decimal, n, false)
 }
 
 // Writes a number on a line. Answers the line's length.
@@ -95,7 +96,7 @@ fn write_parts(out: &mut [u8], input: &[u8]) -> usize
     if input.len() < 2 {
         return write_line(out, b"no input");
     }
-    let n = numerals::little_endian::two(input, 0) as usize;
+    let n = words::two(input, 0) as usize;
     if input.len() - 2 < n {
         return write_line(out, b"no input");
     }

@@ -1,6 +1,7 @@
 // binary64 values as hexadecimal text: fields, category, exact scaling, rounding, and the digits of %a without mark, prefix and padding.
 // Ported in part from format_string.rs of datafusion-spark 55.2.0 (Apache-2.0; see NOTICE): FloatBits::to_parts,
 // trim_trailing_0s_hex, and the digits of format_hex_float.
+use numerals::Radix;
 use params::NumericParam;
 ghost use mathlib.Core.Path.{_≡_};
 ghost use mathlib.Core.Bool.{Bool};
@@ -257,11 +258,11 @@ fn write_exponent(out: &mut [u8], exponent: u32, bias: u32, upper: bool) -> usiz
         out[1] = b'-';
         let below = (bias - exponent) as u64;
         let n = numerals::decimal_len(below);
-        return 2 + numerals::write_digits(&mut out[2..], below, 10, n, false);
+        return 2 + numerals::write_digits(&mut out[2..], below, Radix::Decimal, n, false);
     }
     let above = (exponent - bias) as u64;
     let n = numerals::decimal_len(above);
-    1 + numerals::write_digits(&mut out[1..], above, 10, n, false)
+    1 + numerals::write_digits(&mut out[1..], above, Radix::Decimal, n, false)
 }
 
 // The length of the text, in small letters and capitals alike; its time does not grow with the digits or the zeros.
@@ -291,7 +292,8 @@ pub fn write_hex_float(out: &mut [u8], h: HexFloat, upper: bool) -> usize
     let zeros = h.zeros as usize;
     out[0] = leading_letter(h.leading);
     out[1] = b'.';
-    let a = 2 + numerals::write_digits(&mut out[2..], h.fraction, 16, digits, upper);
+    let a = 2
+        + numerals::write_digits(&mut out[2..], h.fraction, Radix::Hexadecimal, digits, upper);
     let b = a + writing::write_fill(&mut out[a..], zeros, b'0');
     b + write_exponent(&mut out[b..], h.exponent, h.bias, upper)
 }

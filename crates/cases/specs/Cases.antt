@@ -6,7 +6,7 @@ use mathlib.Core.Bool.{Bool, true, false, _&&_}
 use mathlib.Core.List.{List, [], _∷_, _++_}
 use lib.Dec.{eqb}
 use lib.ListN.{length}
-use Rattle.numerals.specs.LittleEndian.{bytesOf}
+use Rattle.words.specs.LittleEndian.{bytesOf}
 use Rattle.reading.specs.Examples.{same}
 use Rattle.strings.specs.Scalars.{utf8Of}
 use Rattle.outcomes.specs.Printed.{printedText, measured}

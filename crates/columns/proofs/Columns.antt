@@ -16,8 +16,8 @@ use Rattle.conversions.specs.Letters.{lookup}
 use Rattle.conversions.specs.Kinds.{integerKinds, kindOf, integerForm, onlyIf, formOf, printsAs}
 use Rattle.conversions.specs.declared.ConversionType.{ConversionType}
 use Rattle.conversions.specs.declared.ConversionType.the-variants as C
-use Rattle.conversions.specs.declared.Radix.{Radix}
-use Rattle.conversions.specs.declared.Radix.the-variants as R
+use Rattle.numerals.specs.declared.Radix.{Radix}
+use Rattle.numerals.specs.declared.Radix.the-variants as R
 use Rattle.conversions.specs.declared.Kind.{Kind}
 use Rattle.conversions.specs.declared.Kind.the-variants as K
 use Rattle.conversions.specs.declared.KindByte.{KindByte}

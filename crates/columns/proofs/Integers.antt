@@ -24,8 +24,8 @@ use Rattle.reading.specs.Reading.{Integer, Bits, readPiece}
 use Rattle.reading.proofs.Integers.{spaced, kept-numeral, kept-commas}
 use Rattle.reading.proofs.Pieces.{decimal-piece, hex-piece, octal-piece}
 use Rattle.conversions.specs.declared.Kind.the-variants as K
-use Rattle.conversions.specs.declared.Radix.{Radix}
-use Rattle.conversions.specs.declared.Radix.the-variants as R
+use Rattle.numerals.specs.declared.Radix.{Radix}
+use Rattle.numerals.specs.declared.Radix.the-variants as R
 use Rattle.specifiers.specs.declared.Flags.{Flags}
 use Rattle.specifiers.specs.declared.Element.{Element}
 use Rattle.rows.specs.Row.{holds}

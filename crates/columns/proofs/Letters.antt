@@ -10,7 +10,7 @@ use Rattle.writing.specs.Text.{has}
 use Rattle.conversions.specs.Letters.{smallOf, capitalOf}
 use Rattle.conversions.specs.declared.ConversionType.{ConversionType}
 use Rattle.conversions.specs.declared.ConversionType.the-variants.{Integer, HexFloat}
-use Rattle.conversions.specs.declared.Radix.the-variants as R
+use Rattle.numerals.specs.declared.Radix.the-variants as R
 use Rattle.specifiers.specs.Specifier.{letterFrom}
 use Rattle.specifiers.specs.declared.LetterTaken.the-variants as L
 

@@ -8,7 +8,7 @@ use Rattle.conversions.specs.declared.TimeFormat.{TimeFormat}
 use Rattle.conversions.specs.declared.TimeFormat.the-variants as T
 use Rattle.conversions.specs.declared.ConversionType.{ConversionType}
 use Rattle.conversions.specs.declared.ConversionType.the-variants as C
-use Rattle.conversions.specs.declared.Radix.the-variants.{Decimal, Octal, Hexadecimal}
+use Rattle.numerals.specs.declared.Radix.the-variants.{Decimal, Octal, Hexadecimal}
 use Rattle.conversions.specs.declared.TimeLetter.{TimeLetter}
 use Rattle.conversions.specs.declared.TimeLetter.the-variants.{Component, NoComponent}
 use Rattle.conversions.specs.declared.Letter.{Letter}

@@ -1,6 +1,7 @@
 // The letters of a format, the kinds of value, and which letter fits which kind.
 // Ported from format_string.rs of datafusion-spark 55.2.0 (Apache-2.0; see NOTICE): ConversionType, TimeFormat with its
 // try_from, ConversionType::validate and the letters of take_conversion_specifier.
+use numerals::Radix;
 ghost use mathlib.Core.Path.{_≡_};
 ghost use Rattle.conversions.specs.Letters.{timeOf, smallOf, capitalOf};
 ghost use Rattle.conversions.specs.Kinds.{kindOf, isIntegerKind, isNumberKind, fits, fitsKind, integerForm, onlyIf, formOf, printsAs};
@@ -58,13 +59,6 @@ pub enum Kind {
     Float64,
     Boolean,
     Text,
-}
-
-// The base in which an integer is written, and how: %d, %o, %x.
-pub enum Radix {
-    Decimal,
-    Octal,
-    Hexadecimal,
 }
 
 // How an integer is printed: as a numeral, as the character that it numbers, or by its decimal digits as text.

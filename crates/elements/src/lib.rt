@@ -7,6 +7,7 @@ use conversions::IntegerForm;
 use layout::Adjust;
 use layout::Mark;
 use layout::Prefix;
+use numerals::Radix;
 use specifiers::Element;
 use specifiers::Flags;
 ghost use mathlib.Core.Path.{_≡_};
@@ -54,11 +55,12 @@ fn put_padded(out: &mut [u8], e: Element, mark: Mark, text: &[u8]) -> u64
         Prefix::NoPrefix,
         n,
     );
+    let total = framed.added + n;
     if framed.fits {
         let at = framed.at;
         strings::write_cased(&mut out[at..], text, e.upper);
     }
-    framed.total
+    total
 }
 
 // A text, cut to the precision, in capitals or not, padded to the width.
@@ -94,9 +96,9 @@ fn write_signed_text(out: &mut [u8], negative: bool, magnitude: u64) -> usize
     let n = numerals::decimal_len(magnitude);
     if negative {
         out[0] = b'-';
-        return 1 + numerals::write_digits(&mut out[1..], magnitude, 10, n, false);
+        return 1 + numerals::write_digits(&mut out[1..], magnitude, Radix::Decimal, n, false);
     }
-    numerals::write_digits(out, magnitude, 10, n, false)
+    numerals::write_digits(out, magnitude, Radix::Decimal, n, false)
 }
 
 // %s of an integer

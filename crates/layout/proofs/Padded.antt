@@ -52,9 +52,9 @@ around-filled d h b t room =
 -- Where frame and text fit, there is room for the text from its place on.
 pub framed-room : (d : List ℕ) (f : Frame) (n : ℕ) (r : Framed) (D : List ℕ) → FramePut d f n r D → r .fits ≡ true → r .at + n ≤ length d
 framed-room d f n r D h e =
-    let room = leb-true (r .total) (length d) (sym (h .fits) ∙ e) in
+    let room = leb-true (r .added + n) (length d) (sym (h .fits) ∙ e) in
     let held : Holds true d f n (r .at) D = subst (λ (t : Bool). Holds t d f n (r .at) D) e (h .holds) in
-    omega (arith, h .total, held .0)
+    omega (arith, h .added, held .0)
 
 module _ (w : ℕ) (a : Adjust) (m : Mark) (p : Prefix) (body : List ℕ) (n : ℕ) (q : n ≡ length body) (d : List ℕ) (r : Framed) (D : List ℕ)
     (h : FramePut d (frameOf w a m p n) n r D) where
@@ -65,29 +65,29 @@ module _ (w : ℕ) (a : Adjust) (m : Mark) (p : Prefix) (body : List ℕ) (n : �
   unfolding frame
   put = subst (λ (k : ℕ). FramePut d (frameOf w a m p k) k r D) q h
 
-  size : r .total ≡ length (padded w a m p body)
+  size : r .added + n ≡ length (padded w a m p body)
   unfolding frame
-  size = put .total ∙ sym (padded-size w a m p body frame refl)
+  size = ap (λ (k : ℕ). r .added + k) q ∙ ap (λ (k : ℕ). k + length body) (put .added) ∙ sym (padded-size w a m p body frame refl)
 
   -- Y is what the writer of the text left of the part from its place on.
   pub framed-put : r .fits ≡ true → (Y : List ℕ) → Y ≡ laid (midOf (r .at) (length D - r .at) D) body
-      → Put d (padded w a m p body) (r .total) (putMid (r .at) (length D - r .at) D Y)
+      → Put d (padded w a m p body) (r .added + n) (putMid (r .at) (length D - r .at) D Y)
   unfolding frame
   framed-put e Y y =
       let f = frameOf w a m p (length body) in
-      let room = leb-true (r .total) (length d) (sym (put .fits) ∙ e) in
+      let room = leb-true (r .added + length body) (length d) (sym (put .fits) ∙ e) in
       let held : Holds true d f (length body) (r .at) D = subst (λ (t : Bool). Holds t d f (length body) (r .at) D) e (put .holds) in (
         size,
         ap (putMid (r .at) (length D - r .at) D) y
             ∙ lent-back D body (r .at)
-            ∙ rw (held .0, held .1) (around-filled d (headText f) body (tailText f) (omega (arith, put .total)))
+            ∙ rw (held .0, held .1) (around-filled d (headText f) body (tailText f) (omega (arith, put .added)))
             ∙ ap (laid d) (sym (padded-is w a m p body f refl))
             ∙ sym (laid-room d (padded w a m p body) (omega (arith, size))),
       )
 
-  pub framed-not : r .fits ≡ false → Put d (padded w a m p body) (r .total) D
+  pub framed-not : r .fits ≡ false → Put d (padded w a m p body) (r .added + n) D
   framed-not e =
-      let small = leb-false (r .total) (length d) (sym (put .fits) ∙ e) in
+      let small = leb-false (r .added + length body) (length d) (sym (put .fits) ∙ e) in
       let held : Holds false d frame (length body) (r .at) D = subst (λ (t : Bool). Holds t d frame (length body) (r .at) D) e (put .holds) in
       (size, held .1 ∙ sym (laid-no-room d (padded w a m p body) (omega (arith, size))))
 

@@ -24,7 +24,7 @@ Holds true d f n at out = (at ≡ length (headText f)) × (out ≡ around d f n)
 Holds false d f n at out = (at ≡ 0) × (out ≡ d)
 
 pub record FramePut (d : List ℕ) (f : Frame) (n : ℕ) (r : Framed) (out : List ℕ) : Type 0 where
-  pub total : r .total ≡ (length (headText f) + length (tailText f)) + n
-  pub below : r .total < 2 ^ 42
-  pub fits : r .fits ≡ leb (r .total) (length d)
+  pub added : r .added ≡ length (headText f) + length (tailText f)
+  pub below : r .added < 2 ^ 41
+  pub fits : r .fits ≡ leb (r .added + n) (length d)
   pub holds : Holds (r .fits) d f n (r .at) out

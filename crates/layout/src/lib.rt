@@ -4,6 +4,7 @@
 ghost use mathlib.Core.Path.{_≡_};
 ghost use mathlib.Core.List.{List};
 ghost use Prim.Native.Nat.{ℕ, _+_, _^_, _≤_, _<_};
+ghost use lib.Dec.{leb};
 ghost use lib.ListN.{length};
 ghost use Rattle.writing.specs.Writers.{Wrote};
 ghost use Rattle.layout.specs.Frame.{opening, closing, prefixText, headText, tailText, spare, frameOf};
@@ -44,9 +45,9 @@ pub struct Frame {
     pub after: u32,
 }
 
-// What put_frame answers: the length of frame and text, and where the text goes, if both fit.
+// What put_frame answers: how many bytes the frame adds, and where the text goes, if both fit.
 pub struct Framed {
-    pub total: u64,
+    pub added: u64,
     pub at: usize,
     pub fits: bool,
 }
@@ -217,6 +218,16 @@ fn write_frame(out: &mut [u8], f: Frame, n: usize) -> usize
     at
 }
 
+// Whether a text of n has room together with what a frame adds to it. The sum is not formed, so that n may be any number.
+fn has_room(added: u64, n: u64, room: u64) -> bool
+    ensures { λ r. ⌜ r ≡ leb (added + n) room ⌝ }
+{
+    if room < n {
+        return false;
+    }
+    added <= room - n
+}
+
 // Writes what brings a text of n to the width around its place, where there is room for all of it; else writes nothing.
 pub fn put_frame(
     out: &mut [u8],
@@ -226,20 +237,19 @@ pub fn put_frame(
     prefix: Prefix,
     n: u64,
 ) -> Framed
-    requires { ⌜ n < 2 ^ 41 ⌝ }
     ensures { λ r. ⌜ FramePut (now (out .entry)) (frameOf width adjust mark prefix n) n r (now (out .exit)) ⌝ }
 {
     let f = frame_for(width, adjust, mark, prefix, n);
-    let total = frame_len(f) + n;
-    if total <= out.len() as u64 {
+    let added = frame_len(f);
+    if has_room(added, n, out.len() as u64) {
         return Framed {
-            total: total,
+            added: added,
             at: write_frame(out, f, n as usize),
             fits: true,
         };
     }
     Framed {
-        total: total,
+        added: added,
         at: 0,
         fits: false,
     }

@@ -6,12 +6,11 @@ use Prim.Native.Nat.{ℕ}
 use lib.IntN.{natAbs}
 use Rattle.writing.specs.Choose.{choose}
 use Rattle.numerals.specs.Digits.{digitsIn, places, digits, lettersOf, numeral, decimal}
-use Rattle.numerals.specs.Bases.{IsBase}
 use Rattle.numerals.specs.Grouping.{grouped}
 use Rattle.numerals.specs.Integers.{intOf, isNegative}
 use Rattle.layout.specs.declared.Prefix.the-variants.{NoPrefix}
-use Rattle.conversions.specs.declared.Radix.{Radix}
-use Rattle.conversions.specs.declared.Radix.the-variants as R
+use Rattle.numerals.specs.declared.Radix.{Radix}
+use Rattle.numerals.specs.declared.Radix.the-variants as R
 use Rattle.specifiers.specs.declared.Element.{Element}
 use Rattle.numbers.specs.Numbers.{paddedNumber, integerMark, commas, numeralText}
 use Rattle.numbers.specs.Numerals.{digitsText, numeralOf}
@@ -26,12 +25,7 @@ commas-or-none true t = refl
 commas-or-none false t = refl
 
 module _ (e : Element) where
-  -- the numeral of an integer has a base in use, and is its text
-  pub numeral-base : (r : Radix) (w v : ℕ) → IsBase (numeralOf e r w v .base)
-  numeral-base R.Decimal w v = tt
-  numeral-base R.Octal w v = tt
-  numeral-base R.Hexadecimal w v = tt
-
+  -- the numeral of an integer is its text
   pub numeral-text : (r : Radix) (w v : ℕ)
       → paddedNumber e (numeralOf e r w v .mark) (numeralOf e r w v .prefix) (digitsText (numeralOf e r w v)) ≡ numeralText e r w v
   numeral-text R.Decimal w v =

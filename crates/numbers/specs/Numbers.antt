@@ -18,8 +18,8 @@ use Rattle.layout.specs.declared.Adjust.{Adjust}
 use Rattle.layout.specs.declared.Adjust.the-variants.{Right, Left, Zeros}
 use Rattle.binary64.specs.Fields.{negative}
 use Rattle.binary64.specs.HexFloat.{hexFloatOf, hexFloatText}
-use Rattle.conversions.specs.declared.Radix.{Radix}
-use Rattle.conversions.specs.declared.Radix.the-variants as R
+use Rattle.numerals.specs.declared.Radix.{Radix}
+use Rattle.numerals.specs.declared.Radix.the-variants as R
 use Rattle.specifiers.specs.declared.Flags.{Flags}
 use Rattle.specifiers.specs.declared.Element.{Element}
 

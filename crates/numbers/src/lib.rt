@@ -1,10 +1,10 @@
 // The text of a number under an element, with mark, prefix and padding: an integer as a numeral, and a finite float. A writer writes where there is room.
 // Ported from format_string.rs of datafusion-spark 55.2.0 (Apache-2.0; see NOTICE): format_signed and format_unsigned (here the numeral of an integer, and its
 // writer put_numeral), and the finite values of format_hex_float.
-use conversions::Radix;
 use layout::Adjust;
 use layout::Mark;
 use layout::Prefix;
+use numerals::Radix;
 use params::NumericParam;
 use specifiers::Element;
 use specifiers::Flags;
@@ -12,7 +12,6 @@ ghost use mathlib.Core.Path.{_≡_};
 ghost use Prim.Native.Nat.{_^_, _≤_, _<_};
 ghost use lib.ListN.{length};
 ghost use Rattle.writing.specs.Writers.{Wrote, Put};
-ghost use Rattle.numerals.specs.Bases.{IsBase};
 ghost use Rattle.numbers.specs.Numbers.{widthOf, fill, paddedNumber, signMark, integerMark, ifAlternate, hexPrefix, numeralText, floatMark, finiteText};
 ghost use Rattle.numbers.specs.Numerals.{digitsText, signedNumeral, unsignedNumeral, numeralOf};
 
@@ -21,7 +20,7 @@ pub struct Numeral {
     pub mark: Mark,
     pub prefix: Prefix,
     pub value: u64,
-    pub base: u64,
+    pub radix: Radix,
     pub upper: bool,
     pub grouped: bool,
 }
@@ -103,29 +102,29 @@ fn hex_prefix(upper: bool) -> Prefix
 
 // How many bytes a numeral's digits and commas take.
 fn numeral_len(n: Numeral) -> usize
-    requires { ⌜ IsBase (n .base) ⌝ }
     ensures { λ r. ⌜ (r ≡ length (digitsText n)) × (r < 2 ^ 32) ⌝ }
 {
     if n.grouped {
         return numerals::grouped_len(n.value);
     }
-    numerals::digits_len(n.value, n.base)
+    let radix = n.radix;
+    numerals::digits_len(n.value, radix)
 }
 
 // Writes them. Answers len, which is how many they are.
 fn write_numeral(out: &mut [u8], n: Numeral, len: usize) -> usize
-    requires { ⌜ (IsBase (n .base)) × (len ≡ length (digitsText n)) × (len ≤ length (now out)) ⌝ }
+    requires { ⌜ (len ≡ length (digitsText n)) × (len ≤ length (now out)) ⌝ }
     ensures { λ r. ⌜ Wrote (now (out .entry)) (digitsText n) r (now (out .exit)) ⌝ }
 {
     if n.grouped {
         return numerals::write_grouped(out, n.value, len);
     }
-    numerals::write_digits(out, n.value, n.base, len, n.upper)
+    let radix = n.radix;
+    numerals::write_digits(out, n.value, radix, len, n.upper)
 }
 
 // A numeral without width, mark and prefix: there is no frame to write.
 fn put_bare_numeral(out: &mut [u8], n: Numeral) -> u64
-    requires { ⌜ IsBase (n .base) ⌝ }
     ensures { λ r. ⌜ Put (now (out .entry)) (digitsText n) r (now (out .exit)) × (r < 2 ^ 42) ⌝ }
 {
     let len = numeral_len(n);
@@ -137,7 +136,6 @@ fn put_bare_numeral(out: &mut [u8], n: Numeral) -> u64
 
 // A numeral in its frame.
 fn put_framed_numeral(out: &mut [u8], e: Element, n: Numeral) -> u64
-    requires { ⌜ IsBase (n .base) ⌝ }
     ensures { λ r. ⌜ Put (now (out .entry)) (paddedNumber e (n .mark) (n .prefix) (digitsText n)) r (now (out .exit)) × (r < 2 ^ 42) ⌝ }
 {
     let width = e.width;
@@ -153,16 +151,16 @@ fn put_framed_numeral(out: &mut [u8], e: Element, n: Numeral) -> u64
         prefix,
         len as u64,
     );
+    let total = framed.added + len as u64;
     if framed.fits {
         let at = framed.at;
         write_numeral(&mut out[at..], n, len);
     }
-    framed.total
+    total
 }
 
 // A numeral, padded to the element's width.
 fn put_numeral(out: &mut [u8], e: Element, n: Numeral) -> u64
-    requires { ⌜ IsBase (n .base) ⌝ }
     ensures { λ r. ⌜ Put (now (out .entry)) (paddedNumber e (n .mark) (n .prefix) (digitsText n)) r (now (out .exit)) × (r < 2 ^ 42) ⌝ }
 {
     let width = e.width;
@@ -182,21 +180,21 @@ fn signed_numeral(flags: Flags, value: u64) -> Numeral
         mark: integer_mark(flags, numerals::is_negative(value)),
         prefix: Prefix::NoPrefix,
         value: numerals::magnitude(value),
-        base: 10,
+        radix: Radix::Decimal,
         upper: false,
         grouped: flags.grouping,
     }
 }
 
 // %x and %o of the bits of an integer.
-fn unsigned_numeral(prefix: Prefix, base: u64, upper: bool, bits: u64) -> Numeral
-    ensures { λ r. ⌜ r ≡ unsignedNumeral prefix base upper bits ⌝ }
+fn unsigned_numeral(prefix: Prefix, radix: Radix, upper: bool, bits: u64) -> Numeral
+    ensures { λ r. ⌜ r ≡ unsignedNumeral prefix radix upper bits ⌝ }
 {
     Numeral {
         mark: Mark::NoMark,
         prefix: prefix,
         value: bits,
-        base: base,
+        radix: radix,
         upper: upper,
         grouped: false,
     }
@@ -211,12 +209,14 @@ fn numeral_of(e: Element, radix: Radix, width: u32, value: u64) -> Numeral
         Radix::Decimal => signed_numeral(flags, value),
         Radix::Octal => {
             let bits = numerals::low_bits(value, width);
-            unsigned_numeral(if_alternate(flags, Prefix::Octal), 8, false, bits)
+            let prefix = if_alternate(flags, Prefix::Octal);
+            unsigned_numeral(prefix, Radix::Octal, false, bits)
         }
         Radix::Hexadecimal => {
             let upper = e.upper;
             let bits = numerals::low_bits(value, width);
-            unsigned_numeral(if_alternate(flags, hex_prefix(upper)), 16, upper, bits)
+            let prefix = if_alternate(flags, hex_prefix(upper));
+            unsigned_numeral(prefix, Radix::Hexadecimal, upper, bits)
         }
     }
 }
@@ -248,9 +248,10 @@ pub fn format_finite(out: &mut [u8], e: Element, bits: u64) -> u64
         hex_prefix(upper),
         n,
     );
+    let total = framed.added + n;
     if framed.fits {
         let at = framed.at;
         binary64::write_hex_float(&mut out[at..], float, upper);
     }
-    framed.total
+    total
 }

@@ -2,4 +2,3 @@ pub mod Digits
 pub mod Bases
 pub mod Integers
 pub mod Grouping
-pub mod LittleEndian

@@ -1,8 +1,10 @@
--- What the functions of this crate require. No contract of an entry speaks of this.
+-- The base that a function of this crate is told. No contract of an entry speaks of this.
 use Prim.Native.Nat.{ℕ}
-use mathlib.Core.Bool.{_||_}
-use lib.Dec.{T, eqb}
+use Rattle.numerals.specs.declared.Radix.{Radix}
+use Rattle.numerals.specs.declared.Radix.the-variants.{Decimal, Octal, Hexadecimal}
 
--- The bases in use.
-abbrev pub IsBase : ℕ → Type 0
-IsBase b = T (eqb b 8 || eqb b 10 || eqb b 16)
+-- 01, "Reading a piece back": "%d: decimal digits"; "%x, %o: .. digits in base 16 or 8".
+abbrev pub baseOf : Radix → ℕ
+baseOf Decimal = 10
+baseOf Octal = 8
+baseOf Hexadecimal = 16

@@ -2,4 +2,3 @@ pub mod Digits
 pub mod Grouping
 pub mod Integers
 pub mod Bases
-pub mod LittleEndian

@@ -1,17 +1,22 @@
 // Whole numbers as text: digits in a base, commas, two's complement.
 // Ported in part from format_string.rs of datafusion-spark 55.2.0 (Apache-2.0; see NOTICE): insert_thousands_separator, and the digit writing of
 // format_unsigned and format_signed.
-pub mod little_endian;
-
 ghost use mathlib.Core.Path.{_≡_};
 ghost use Prim.Native.Nat.{_%_, _^_, _≤_, _<_};
 ghost use lib.IntN.{natAbs};
 ghost use lib.ListN.{length};
 ghost use Rattle.writing.specs.Writers.{Wrote};
 ghost use Rattle.numerals.specs.Digits.{digitsIn, places, letterOf, lettersOf, decimal};
-ghost use Rattle.numerals.specs.Bases.{IsBase};
+ghost use Rattle.numerals.specs.Bases.{baseOf};
 ghost use Rattle.numerals.specs.Grouping.{grouped};
 ghost use Rattle.numerals.specs.Integers.{intOf, isNegative};
+
+// The base in which a number is written.
+pub enum Radix {
+    Decimal,
+    Octal,
+    Hexadecimal,
+}
 
 // The letter of a digit below 16: small, or capital where upper is set.
 fn digit_letter(digit: u64, upper: bool) -> u8
@@ -70,18 +75,15 @@ fn power_len(x: u64, shift: u32) -> u32
     (bits + shift - 1) / shift
 }
 
-// How many digits x has in base 8, 10 or 16.
-pub fn digits_len(x: u64, base: u64) -> usize
-    requires { ⌜ IsBase base ⌝ }
-    ensures { λ r. ⌜ r ≡ places base x ⌝ }
+// How many digits x has in a base.
+pub fn digits_len(x: u64, radix: Radix) -> usize
+    ensures { λ r. ⌜ r ≡ places (baseOf radix) x ⌝ }
 {
-    if base == 8 {
-        return power_len(x, 3) as usize;
+    match radix {
+        Radix::Decimal => decimal_len(x),
+        Radix::Octal => power_len(x, 3) as usize,
+        Radix::Hexadecimal => power_len(x, 4) as usize,
     }
-    if base == 16 {
-        return power_len(x, 4) as usize;
-    }
-    decimal_len(x)
 }
 
 // Writes the n lowest digits of x in the base, leading zeros included. Answers n. Two digits a turn, since a division takes longer than all else in it.
@@ -104,21 +106,16 @@ fn write_places(out: &mut [u8], x: u64, base: u64, n: usize, upper: bool) -> usi
     n
 }
 
-// The same. Where the base is known at a call, that call is compiled without division.
-pub fn write_digits(out: &mut [u8], x: u64, base: u64, n: usize, upper: bool) -> usize
-    requires { ⌜ (1 ≤ base) × (base ≤ 16) × (n ≤ length (now out)) ⌝ }
-    ensures { λ r. ⌜ Wrote (now (out .entry)) (lettersOf upper (digitsIn base n x)) r (now (out .exit)) ⌝ }
+// The same. At each call the base is a number that stands there, so that it is compiled without division.
+pub fn write_digits(out: &mut [u8], x: u64, radix: Radix, n: usize, upper: bool) -> usize
+    requires { ⌜ n ≤ length (now out) ⌝ }
+    ensures { λ r. ⌜ Wrote (now (out .entry)) (lettersOf upper (digitsIn (baseOf radix) n x)) r (now (out .exit)) ⌝ }
 {
-    if base == 10 {
-        return write_places(out, x, 10, n, upper);
+    match radix {
+        Radix::Decimal => write_places(out, x, 10, n, upper),
+        Radix::Octal => write_places(out, x, 8, n, upper),
+        Radix::Hexadecimal => write_places(out, x, 16, n, upper),
     }
-    if base == 16 {
-        return write_places(out, x, 16, n, upper);
-    }
-    if base == 8 {
-        return write_places(out, x, 8, n, upper);
-    }
-    write_places(out, x, base, n, upper)
 }
 
 // The length of x in decimal with commas, from its number of digits.

@@ -5,8 +5,8 @@ use Prim.Native.Nat.{ℕ, suc, _*_, _^_, _<_}
 use native.Mathlib.Omega.{arith}
 use lib.ListN.{length, getD, take}
 use lib.Seq.{take-suc}
-use Rattle.numerals.specs.LittleEndian.{bytesOf}
-use Rattle.numerals.proofs.LittleEndian.{four-again}
+use Rattle.words.specs.LittleEndian.{bytesOf}
+use Rattle.words.proofs.LittleEndian.{four-again}
 use Rattle.panel.specs.Entries.{allBytes, endsRead}
 
 pub bytes-length : (ns : List ℕ) → length (allBytes ns) ≡ 4 * length ns

@@ -5,7 +5,7 @@ use mathlib.Core.Path.{_≡_}
 use mathlib.Core.List.{List, [], _∷_, _++_}
 use lib.ListN.{length, take}
 use Rattle.writing.specs.Laid.{laid}
-use Rattle.numerals.specs.LittleEndian.{littleEndian, bytesOf}
+use Rattle.words.specs.LittleEndian.{littleEndian, bytesOf}
 use Rattle.parsing.specs.declared.Checked.{Checked}
 use Rattle.parsing.specs.declared.Checked.the-variants as C
 use Rattle.outcomes.specs.Printed.{texts, printedText, endsFrom, printed, written}

@@ -89,7 +89,7 @@ fn store_ends(ends: &mut [u8], slots: &[u32])
 {
     let mut k: usize = 0;
     while k < slots.len() {
-        numerals::little_endian::write_four(&mut ends[4 * k..], slots[k]);
+        words::write_four(&mut ends[4 * k..], slots[k]);
         k = k + 1;
     }
 }

@@ -205,12 +205,17 @@ fn passed_by(c: Cursor, at: usize) -> Cursor
     }
 }
 
-// The next piece from a cursor on.
+// The next piece from a cursor on: behind the format's end, an empty one.
 pub fn next_piece(fmt: &[u8], kinds: &[u8], c: Cursor) -> Step
-    requires { ⌜ c .at < length (now fmt) ⌝ }
     ensures { λ r. ⌜ r ≡ pieceAt (now (fmt .entry)) (now (kinds .entry)) c ⌝ }
 {
     let at = c.at;
+    if fmt.len() <= at {
+        return Step::Found {
+            piece: Piece::Fixed { start: at, len: 0 },
+            next: passed_by(c, at),
+        };
+    }
     let second = at + 1;
     if fmt[at] != b'%' {
         let n = scan::text_len(&fmt[at..]);

@@ -10,7 +10,7 @@ use lib.Dec.{eqb}
 use lib.ListN.{length, getD, drop}
 use lib.Seq.{drop-cons}
 use lib.ListN.{drop-of-length-le}
-use Rattle.numerals.specs.LittleEndian.{wordAt}
+use Rattle.words.specs.LittleEndian.{wordAt}
 use Rattle.records.specs.Records.{between}
 use Rattle.records.specs.Comparing.{sameList, fours, statesPrinted}
 use Rattle.records.specs.declared.Stated.the-variants.{Prints}

@@ -4,7 +4,7 @@ use mathlib.Core.Bool.{Bool, true, false, _&&_}
 use mathlib.Core.List.{List, [], _∷_}
 use lib.Dec.{eqb}
 use lib.ListN.{length}
-use Rattle.numerals.specs.LittleEndian.{wordAt}
+use Rattle.words.specs.LittleEndian.{wordAt}
 use Rattle.records.specs.Records.{between}
 use Rattle.records.specs.declared.Stated.{Stated}
 use Rattle.records.specs.declared.Stated.the-variants.{Accepts, Prints, Refuses}

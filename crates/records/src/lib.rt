@@ -78,7 +78,7 @@ fn part_end(list: &[u8], at: usize) -> End
     if left < 2 {
         return End::Outside;
     }
-    let n = numerals::little_endian::two(list, at) as usize;
+    let n = words::two(list, at) as usize;
     if left - 2 < n {
         return End::Outside;
     }
@@ -94,8 +94,8 @@ fn accepts_at(list: &[u8], at: usize) -> Read
     }
     Read::Whole {
         stated: Stated::Accepts {
-            pieces: numerals::little_endian::two(list, at) as usize,
-            largest: numerals::little_endian::two(list, at + 2) as usize,
+            pieces: words::two(list, at) as usize,
+            largest: words::two(list, at + 2) as usize,
         },
         next: at + 4,
     }
@@ -111,7 +111,7 @@ fn refuses_at(list: &[u8], at: usize) -> Read
     Read::Whole {
         stated: Stated::Refuses {
             number: list[at],
-            place: numerals::little_endian::two(list, at + 1) as usize,
+            place: words::two(list, at + 1) as usize,
         },
         next: at + 3,
     }
@@ -126,7 +126,7 @@ fn ends_at(list: &[u8], text: usize, end: usize) -> Read
     if left < 2 {
         return Read::Broken;
     }
-    let pieces = numerals::little_endian::two(list, end) as usize;
+    let pieces = words::two(list, end) as usize;
     if left - 2 < 4 * pieces {
         return Read::Broken;
     }
@@ -273,7 +273,7 @@ fn is_same_ends(ends: &[u32], list: &[u8], at: usize) -> bool
 {
     let mut i: usize = 0;
     while i < ends.len() {
-        if wide_end(ends[i]) != numerals::little_endian::four(list, at + 4 * i) {
+        if wide_end(ends[i]) != words::four(list, at + 4 * i) {
             return false;
         }
         i = i + 1;

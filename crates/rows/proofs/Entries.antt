@@ -7,7 +7,7 @@ use native.Mathlib.Omega.{arith}
 use lib.ListN.{length, getD, take, drop}
 use borrow.Rule.Slice.PartAt.{part-to-end}
 use Rattle.conversions.specs.Kinds.{kindOf}
-use Rattle.numerals.specs.LittleEndian.{wordAt}
+use Rattle.words.specs.LittleEndian.{wordAt}
 use Rattle.rows.specs.Row.{countOf, isNull, entryOf, entryAt, entriesFrom}
 
 -- The entry with the index i + 1, by the places that the code reads.

@@ -14,7 +14,7 @@ fn count_of(row: &[u8]) -> usize
     requires { ⌜ 2 ≤ length (now row) ⌝ }
     ensures { λ r. ⌜ r ≡ countOf (now (row .entry)) ⌝ }
 {
-    numerals::little_endian::two(row, 0) as usize
+    words::two(row, 0) as usize
 }
 
 // Whether a value is a signed integer of this width, sign-extended to 64 bits.
@@ -89,7 +89,7 @@ fn are_entries(row: &[u8], n: usize) -> bool
     let text = 6 + 9 * n;
     let mut i = 0;
     while i < n {
-        let value = numerals::little_endian::eight(row, 6 + n + 8 * i);
+        let value = words::eight(row, 6 + n + 8 * i);
         if !is_entry(row[6 + i], &row[text..], value) {
             return false;
         }
@@ -110,8 +110,8 @@ pub fn read_row(row: &[u8]) -> RowRead
     if row.len() < 6 {
         return RowRead::Broken;
     }
-    let n = numerals::little_endian::two(row, 0);
-    let t = numerals::little_endian::four(row, 2);
+    let n = words::two(row, 0);
+    let t = words::four(row, 2);
     if refusals::MOST_VALUES < n {
         return RowRead::Broken;
     }
@@ -142,7 +142,7 @@ pub fn value_of(row: &[u8], argument: usize) -> u64
     ensures { λ r. ⌜ r ≡ valueOf (now (row .entry)) argument ⌝ }
 {
     let count = count_of(row);
-    numerals::little_endian::eight(row, 6 + count + 8 * (argument - 1))
+    words::eight(row, 6 + count + 8 * (argument - 1))
 }
 
 // Whether a kind byte is that of a text.

@@ -3,7 +3,6 @@ use mathlib.Core.Path.{_≡_, ap, _∙_}
 use mathlib.Core.List.{[], _∷_}
 use Prim.Native.Nat.{_+_, _-_, _≤_}
 use native.Mathlib.Omega.{arith}
-use lib.Dec.{lit≤}
 use lib.ListN.{length, length-set, length-take, length-drop}
 use borrow.Author.Needs.{needs}
 use Rattle.writing.proofs.Laid.{length-laid}
@@ -51,7 +50,7 @@ part-write-digits-end : tie.Need-part-write-digits-end
 part-write-digits-end c = search needs
 
 write-digits-requires : tie.Need-write-digits-requires
-write-digits-requires c κs = (lit≤ tt, lit≤ tt, simp (length-take, length-drop, length-set) (omega (arith, room (c .before))))
+write-digits-requires c κs = simp (length-take, length-drop, length-set) (omega (arith, room (c .before)))
 
 written : (c : tie.After-write-digits) → c .write-digits .result ≡ c .before .before .decimal-len .result
 written c = c .write-digits .ensures .0 ∙ length-lettersIn _ 10 _ _
@@ -103,7 +102,7 @@ part-write-digits-end-2 : tie.Need-part-write-digits-end-2
 part-write-digits-end-2 c = search needs
 
 write-digits-requires-2 : tie.Need-write-digits-requires-2
-write-digits-requires-2 c κs = (lit≤ tt, lit≤ tt, simp (length-take, length-drop, length-set) (omega (arith, room-2 (c .before))))
+write-digits-requires-2 c κs = simp (length-take, length-drop, length-set) (omega (arith, room-2 (c .before)))
 
 written-2 : (c : tie.After-write-digits2) → c .write-digits2 .result ≡ c .before .before .decimal-len2 .result
 written-2 c = c .write-digits2 .ensures .0 ∙ length-lettersIn _ 10 _ _

@@ -1,5 +1,5 @@
 -- `elements::put_padded` meets its contract. Assumes nothing.
-use Prim.Native.Nat.{_+_, _≤_}
+use Prim.Native.Nat.{_+_, _^_, _≤_, _<_}
 use lib.ListN.{length}
 use native.Mathlib.Omega.{arith}
 use mathlib.Core.Path.{_≡_, sym}
@@ -33,24 +33,27 @@ module _ (c : tie.After-put-frame) where
   room : c .put-frame .result .fits ≡ true → c .put-frame .result .at + length (start c .args .text .now) ≤ length (start c .args .out .now)
   room = framed-room _ _ _ _ _ put
 
+  below : c .put-frame .result .added + length (start c .args .text .now) < 2 ^ 42
+  below = omega (arith, put .below, start c .pre)
+
 returns : tie.Need-returns
 returns c =
     let wrote = c .before .before in
     let tested = wrote .before .before in
-    let framed = tested .before .before .before in
+    let framed = tested .before .before .before .before in
     let a = start framed .args in (
       framed-put (widthOf (a .e .width)) (side (a .e .flags)) (a .mark) NoPrefix (cased (a .e .upper) (a .text .now)) _
           (sym (length-cased (a .e .upper) (a .text .now))) (a .out .now) _ _ (put framed) (tested .if1 .taken) _ (wrote .write-cased .ensures .1),
-      put framed .below,
+      below framed,
     )
 
 returns-2 : tie.Need-returns-2
 returns-2 c =
-    let framed = c .before .before .before in
+    let framed = c .before .before .before .before in
     let a = start framed .args in (
       framed-not (widthOf (a .e .width)) (side (a .e .flags)) (a .mark) NoPrefix (cased (a .e .upper) (a .text .now)) _
           (sym (length-cased (a .e .upper) (a .text .now))) (a .out .now) _ _ (put framed) (c .if1 .left),
-      put framed .below,
+      below framed,
     )
 
 pub put-padded-spec : {M : Type 1} → statement M
@@ -60,10 +63,11 @@ put-padded-spec =
     (λ c κs. search needs)
     (λ c κs. search needs)
     (λ c κs. search needs)
-    (λ c. omega (arith, room (c .before .before .before) (c .if1 .taken)))
-    (λ c. omega (arith, room (c .before .before .before) (c .if1 .taken)))
+    (λ c. omega (arith, below (c .before .before .before)))
+    (λ c. omega (arith, room (c .before .before .before .before) (c .if1 .taken)))
+    (λ c. omega (arith, room (c .before .before .before .before) (c .if1 .taken)))
     (λ c. search needs)
-    (λ c κs. let r = room (c .before .before .before .before) (c .before .if1 .taken) in search needs)
+    (λ c κs. let r = room (c .before .before .before .before .before) (c .before .if1 .taken) in search needs)
     (λ c. search needs)
     returns
     (λ c. search needs)

@@ -4,7 +4,6 @@ use Prim.Native.Char.{code}
 use mathlib.Core.Path.{_≡_, refl, ap, _∙_}
 use mathlib.Core.Bool.{false}
 use mathlib.Core.List.{List, [], _∷_}
-use lib.Dec.{lit≤}
 use lib.ListN.{length, set, length-set, length-take, length-drop}
 use native.Mathlib.Omega.{arith}
 use Rattle.writing.proofs.Laid.{laid-first, laid-next, length-laid}
@@ -53,7 +52,7 @@ part-write-digits-end : tie.Need-part-write-digits-end
 part-write-digits-end c = search needs
 
 write-digits-requires : tie.Need-write-digits-requires
-write-digits-requires c κs = (lit≤ tt, lit≤ tt, simp (length-take, length-drop, length-set) (omega (arith, short (c .before .before))))
+write-digits-requires c κs = simp (length-take, length-drop, length-set) (omega (arith, short (c .before .before)))
 
 add-result : tie.Need-add-result
 add-result c =
@@ -76,7 +75,7 @@ same-length c =
     ap length (returns c .0 .1) ∙ length-laid (start .args .out .now) _ (omega (arith, returns c .1, returns c .0 .0, start .pre))
 
 write-digits-requires-2 : tie.Need-write-digits-requires-2
-write-digits-requires-2 c κs = (lit≤ tt, lit≤ tt, omega (arith, short (c .before .before)))
+write-digits-requires-2 c κs = omega (arith, short (c .before .before))
 
 same-length-2 : tie.Need-same-length-2
 same-length-2 c = search needs

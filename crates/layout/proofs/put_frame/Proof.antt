@@ -1,34 +1,44 @@
 -- `layout::put_frame` meets its contract. Assumes nothing.
+use Prim.Native.Nat.{_+_}
 use native.Mathlib.Omega.{arith}
-use mathlib.Core.Path.{refl, sym}
+use mathlib.Core.Path.{refl, sym, _∙_}
+use lib.ListN.{length}
 use borrow.Author.Needs.{needs}
-use borrow.Author.Tests.{le-leb, lt-leb}
+use borrow.Author.Tests.{leb-true}
 use Rattle.layout.proofs.put_frame.Statement.{statement}
 use Rattle.layout.proofs.put_frame.Tie as tie
+
+write-frame-requires : tie.Need-write-frame-requires
+write-frame-requires c κs =
+    let asked = c .before .before in
+    let len = asked .before in
+    let a = len .before .before .before .args in
+    let room = leb-true (len .frame-len .result + a .n) (length (a .out .now)) (sym (asked .has-room .ensures) ∙ c .before .if1 .taken) in
+    omega (arith, len .frame-len .ensures .0)
 
 -- with room for frame and text
 returns : tie.Need-returns
 returns c =
     let wrote = c .before .before in
     let tested = wrote .before .before in
-    let len = tested .before in
-    let f = len .before .frame-for in
-    rw (← f .ensures) (record {
-      total = omega (arith, len .frame-len .ensures .0);
-      below = omega (arith, len .frame-len .ensures .1);
-      fits = sym (le-leb _ _ (tested .if1 .taken));
+    let asked = tested .before in
+    let len = asked .before in
+    rw (← len .before .frame-for .ensures) (record {
+      added = len .frame-len .ensures .0;
+      below = len .frame-len .ensures .1;
+      fits = sym (tested .if1 .taken) ∙ asked .has-room .ensures;
       holds = wrote .write-frame .ensures;
     })
 
 -- and without
 returns-2 : tie.Need-returns-2
 returns-2 c =
-    let len = c .before in
-    let f = len .before .frame-for in
-    rw (← f .ensures) (record {
-      total = omega (arith, len .frame-len .ensures .0);
-      below = omega (arith, len .frame-len .ensures .1);
-      fits = sym (lt-leb _ _ (c .if1 .left));
+    let asked = c .before in
+    let len = asked .before in
+    rw (← len .before .frame-for .ensures) (record {
+      added = len .frame-len .ensures .0;
+      below = len .frame-len .ensures .1;
+      fits = sym (c .if1 .left) ∙ asked .has-room .ensures;
       holds = (refl, refl);
     })
 
@@ -38,8 +48,8 @@ put-frame-spec =
     (tie.spec
     (λ c κs. search needs)
     (λ c κs. search needs)
-    (λ c. search needs)
     (λ c κs. search needs)
+    write-frame-requires
     (λ c. search needs)
     returns
     returns-2)

@@ -59,29 +59,32 @@ room : (c : tie.After-put-frame) → c .put-frame .result .fits ≡ true
     → c .put-frame .result .at + measured (c .before) .hex-float-len .result ≤ length (start (c .before) .args .out .now)
 room c = framed-room _ _ _ _ _ (c .put-frame .ensures)
 
+below : (c : tie.After-put-frame) → c .put-frame .result .added + measured (c .before) .hex-float-len .result < 2 ^ 42
+below c = omega (arith, c .put-frame .ensures .below, small (c .before))
+
 write-hex-float-requires : tie.Need-write-hex-float-requires
 write-hex-float-requires c κs =
-    let framed = c .before .before .before .before in
+    let framed = c .before .before .before .before .before in
     simp (length-take, length-drop) (omega (arith, room framed (c .before .if1 .taken), own (framed .before)))
 
 returns : tie.Need-returns
 returns c =
     let wrote = c .before .before in
     let tested = wrote .before .before in
-    let framed = tested .before .before .before in
+    let framed = tested .before .before .before .before in
     let p = framed .before in (
       rw (shown p) at
           (framed-put _ _ _ _ (text p) _ (own p) (start p .args .out .now) _ _ (framed .put-frame .ensures) (tested .if1 .taken) _
           (wrote .write-hex-float .ensures .1)),
-      framed .put-frame .ensures .below,
+      below framed,
     )
 
 returns-2 : tie.Need-returns-2
 returns-2 c =
-    let framed = c .before .before .before in
+    let framed = c .before .before .before .before in
     let p = framed .before in (
       rw (shown p) at (framed-not _ _ _ _ (text p) _ (own p) (start p .args .out .now) _ _ (framed .put-frame .ensures) (c .if1 .left)),
-      framed .put-frame .ensures .below,
+      below framed,
     )
 
 pub format-finite-spec : {M : Type 1} → statement M
@@ -95,9 +98,10 @@ format-finite-spec =
     (λ c κs. search needs)
     (λ c κs. search needs)
     (λ c κs. search needs)
-    (λ c κs. small c)
-    (λ c. omega (arith, room (c .before .before .before) (c .if1 .taken)))
-    (λ c. omega (arith, room (c .before .before .before) (c .if1 .taken)))
+    (λ c κs. search needs)
+    (λ c. omega (arith, below (c .before .before .before)))
+    (λ c. omega (arith, room (c .before .before .before .before) (c .if1 .taken)))
+    (λ c. omega (arith, room (c .before .before .before .before) (c .if1 .taken)))
     (λ c. search needs)
     write-hex-float-requires
     (λ c. search needs)

@@ -1,13 +1,8 @@
 -- `numbers::format_numeral` meets its contract. Assumes nothing.
-use Rattle.numbers.proofs.Numerals.{numeral-base, numeral-text}
+use Rattle.numbers.proofs.Numerals.{numeral-text}
 use borrow.Author.Needs.{needs}
 use Rattle.numbers.proofs.format_numeral.Statement.{statement}
 use Rattle.numbers.proofs.format_numeral.Tie as tie
-
-put-numeral-requires : tie.Need-put-numeral-requires
-put-numeral-requires c κs =
-    let a = c .before .before .before .args in
-    simp (c .numeral-of .ensures) (numeral-base (a .e) (a .radix) (a .width) (a .value))
 
 returns : tie.Need-returns
 returns c =
@@ -17,4 +12,4 @@ returns c =
     rw (numeral-text (a .e) (a .radix) (a .width) (a .value)) at (rw (made .numeral-of .ensures) at (put .put-numeral .ensures))
 
 pub format-numeral-spec : {M : Type 1} → statement M
-format-numeral-spec = tie.close (tie.spec (λ c κs. search needs) put-numeral-requires (λ c. search needs) returns)
+format-numeral-spec = tie.close (tie.spec (λ c κs. search needs) (λ c κs. search needs) (λ c. search needs) returns)

@@ -1,6 +1,7 @@
 -- `numbers::numeral_len` meets its contract. Assumes nothing.
 use mathlib.Core.Path.{sym, _∙_}
 use native.Mathlib.Omega.{arith}
+use Rattle.numerals.specs.Bases.{baseOf}
 use Rattle.numerals.proofs.Digits.{twenty-places, length-numeral}
 use Rattle.numerals.proofs.Bases.{based-places}
 use Rattle.numerals.proofs.Grouping.{length-grouped-decimal}
@@ -22,11 +23,10 @@ digits-len-requires c κs = search needs
 
 returns-2 : tie.Need-returns-2
 returns-2 c =
-    let start = c .before .before in
-    let n = start .args .n in
+    let n = c .before .before .args .n in
     simp (c .before .if1 .left) (
-      c .digits-len .ensures ∙ sym (length-numeral (n .upper) (n .base) (n .value)),
-      omega (arith, c .digits-len .ensures, based-places (n .base) (n .value) (start .pre) (search needs)),
+      c .digits-len .ensures ∙ sym (length-numeral (n .upper) (baseOf (n .radix)) (n .value)),
+      omega (arith, c .digits-len .ensures, based-places (n .radix) (n .value) (search needs)),
     )
 
 pub numeral-len-spec : {M : Type 1} → statement M

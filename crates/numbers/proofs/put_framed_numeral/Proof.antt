@@ -1,5 +1,5 @@
 -- `numbers::put_framed_numeral` meets its contract. Assumes nothing.
-use Prim.Native.Nat.{_+_, _≤_}
+use Prim.Native.Nat.{_+_, _^_, _≤_, _<_}
 use lib.ListN.{length}
 use native.Mathlib.Omega.{arith}
 use mathlib.Core.Path.{_≡_}
@@ -32,24 +32,27 @@ module _ (c : tie.After-put-frame) where
   room : c .put-frame .result .fits ≡ true → c .put-frame .result .at + counted c .numeral-len .result ≤ length (start c .args .out .now)
   room = framed-room _ _ _ _ _ put
 
+  below : c .put-frame .result .added + counted c .numeral-len .result < 2 ^ 42
+  below = omega (arith, put .below, counted c .numeral-len .ensures .1)
+
 returns : tie.Need-returns
 returns c =
     let wrote = c .before .before in
     let tested = wrote .before .before in
-    let framed = tested .before .before .before in
+    let framed = tested .before .before .before .before in
     let a = start framed .args in (
       framed-put (widthOf (a .e .width)) (fill (a .e .flags)) (a .n .mark) (a .n .prefix) (digitsText (a .n)) _ (counted framed .numeral-len .ensures .0)
           (a .out .now) _ _ (put framed) (tested .if1 .taken) _ (wrote .write-numeral .ensures .1),
-      put framed .below,
+      below framed,
     )
 
 returns-2 : tie.Need-returns-2
 returns-2 c =
-    let framed = c .before .before .before in
+    let framed = c .before .before .before .before in
     let a = start framed .args in (
       framed-not (widthOf (a .e .width)) (fill (a .e .flags)) (a .n .mark) (a .n .prefix) (digitsText (a .n)) _ (counted framed .numeral-len .ensures .0)
           (a .out .now) _ _ (put framed) (c .if1 .left),
-      put framed .below,
+      below framed,
     )
 
 pub put-framed-numeral-spec : {M : Type 1} → statement M
@@ -60,10 +63,11 @@ put-framed-numeral-spec =
     (λ c κs. search needs)
     (λ c κs. search needs)
     (λ c κs. search needs)
-    (λ c. omega (arith, room (c .before .before .before) (c .if1 .taken)))
-    (λ c. omega (arith, room (c .before .before .before) (c .if1 .taken)))
+    (λ c. omega (arith, below (c .before .before .before)))
+    (λ c. omega (arith, room (c .before .before .before .before) (c .if1 .taken)))
+    (λ c. omega (arith, room (c .before .before .before .before) (c .if1 .taken)))
     (λ c. search needs)
-    (λ c κs. let r = room (c .before .before .before .before) (c .before .if1 .taken) in search needs)
+    (λ c κs. let r = room (c .before .before .before .before .before) (c .before .if1 .taken) in search needs)
     (λ c. search needs)
     returns
     (λ c. search needs)

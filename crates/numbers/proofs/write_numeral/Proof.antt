@@ -1,18 +1,16 @@
 -- `numbers::write_numeral` meets its contract. Assumes nothing.
 use mathlib.Core.Path.{_≡_, _∙_}
 use lib.ListN.{length}
+use Rattle.numerals.specs.Bases.{baseOf}
 use Rattle.numerals.specs.Digits.{numeral}
 use Rattle.numerals.proofs.Digits.{length-numeral}
-use Rattle.numerals.proofs.Bases.{base-range}
 use Rattle.numbers.proofs.Numerals.{numeral-in}
 use borrow.Author.Needs.{needs}
 use Rattle.numbers.proofs.write_numeral.Statement.{statement}
 use Rattle.numbers.proofs.write_numeral.Tie as tie
 
 write-grouped-requires : tie.Need-write-grouped-requires
-write-grouped-requires c κs =
-    let p = simp (c .before .if1 .taken) at (c .before .before .before .pre) in
-    (p .1, p .2)
+write-grouped-requires c κs = simp (c .before .if1 .taken) at (c .before .before .before .pre)
 
 same-length : tie.Need-same-length
 same-length c = search needs
@@ -23,10 +21,7 @@ returns c =
     simp (wrote .before .before .if1 .taken) (wrote .write-grouped .ensures)
 
 write-digits-requires : tie.Need-write-digits-requires
-write-digits-requires c κs =
-    let start = c .before .before .before in
-    let r = base-range (start .args .n .base) (start .pre .0) in
-    (r .0, r .1, start .pre .2)
+write-digits-requires c κs = search needs
 
 same-length-2 : tie.Need-same-length-2
 same-length-2 c = search needs
@@ -37,8 +32,9 @@ returns-2 c =
     let tested = wrote .before .before in
     let start = tested .before .before in
     let n = start .args .n in
-    let len : start .args .len ≡ length (numeral (n .upper) (n .base) (n .value)) = simp (tested .if1 .left) at (start .pre .1) in
-    let text = numeral-in (n .upper) (n .base) (n .value) (start .args .len) (len ∙ length-numeral (n .upper) (n .base) (n .value)) in
+    let b = baseOf (n .radix) in
+    let len : start .args .len ≡ length (numeral (n .upper) b (n .value)) = simp (tested .if1 .left) at (start .pre .0) in
+    let text = numeral-in (n .upper) b (n .value) (start .args .len) (len ∙ length-numeral (n .upper) b (n .value)) in
     simp (tested .if1 .left) (rw text at (wrote .write-digits .ensures))
 
 pub write-numeral-spec : {M : Type 1} → statement M

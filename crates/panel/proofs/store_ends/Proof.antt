@@ -7,7 +7,7 @@ use lib.Seq.{take-all, length-take-le}
 use native.Mathlib.Omega.{arith}
 use Rattle.writing.specs.Laid.{laid}
 use Rattle.writing.proofs.Laid.{laid-none, laid-next, length-laid}
-use Rattle.numerals.specs.LittleEndian.{bytesOf}
+use Rattle.words.specs.LittleEndian.{bytesOf}
 use Rattle.panel.specs.Entries.{allBytes}
 use Rattle.panel.proofs.Ends.{bytes-length, bytes-next}
 use borrow.Author.Needs.{needs}

@@ -6,7 +6,7 @@ use native.Mathlib.Nat.{one-mul, zero-add, mul-assoc, pow-succ', div-div-eq-div-
 use native.Mathlib.Omega.{arith}
 use lib.ListN.{length, getD, take, drop, length-drop}
 use lib.Seq.{take-add, drop-drop, drop-cons, length-take-le}
-use Rattle.numerals.specs.LittleEndian.{littleEndian, wordAt, bytesOf}
+use Rattle.words.specs.LittleEndian.{littleEndian, wordAt, bytesOf}
 
 -- bytes in a row are the sum of their two parts, the second moved up
 joined : (s t : List ℕ) → littleEndian (s ++ t) ≡ littleEndian s + 256 ^ length s * littleEndian t

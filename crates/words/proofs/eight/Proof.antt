@@ -1,12 +1,12 @@
--- `numerals::little_endian::eight` meets its contract. Assumes nothing.
+-- `words::eight` meets its contract. Assumes nothing.
 use Prim.Native.Nat.{_+_, _*_}
 use mathlib.Core.Path.{_≡_}
 use native.Mathlib.Omega.{arith}
-use Rattle.numerals.specs.LittleEndian.{wordAt}
-use Rattle.numerals.proofs.LittleEndian.{word-add}
+use Rattle.words.specs.LittleEndian.{wordAt}
+use Rattle.words.proofs.LittleEndian.{word-add}
 use borrow.Author.Needs.{needs}
-use Rattle.numerals.proofs.little_endian.eight.Statement.{statement}
-use Rattle.numerals.proofs.little_endian.eight.Tie as tie
+use Rattle.words.proofs.eight.Statement.{statement}
+use Rattle.words.proofs.eight.Tie as tie
 
 four-requires : tie.Need-four-requires
 four-requires c κs = search needs

@@ -1,12 +1,12 @@
--- `numerals::little_endian::two` meets its contract. Assumes nothing.
+-- `words::two` meets its contract. Assumes nothing.
 use Prim.Native.Nat.{_+_, _*_}
 use mathlib.Core.Path.{_≡_}
 use native.Mathlib.Omega.{arith}
-use Rattle.numerals.specs.LittleEndian.{wordAt}
-use Rattle.numerals.proofs.LittleEndian.{word-add, word-one}
+use Rattle.words.specs.LittleEndian.{wordAt}
+use Rattle.words.proofs.LittleEndian.{word-add, word-one}
 use borrow.Author.Needs.{needs}
-use Rattle.numerals.proofs.little_endian.two.Statement.{statement}
-use Rattle.numerals.proofs.little_endian.two.Tie as tie
+use Rattle.words.proofs.two.Statement.{statement}
+use Rattle.words.proofs.two.Tie as tie
 
 shared-slice-read-wide : tie.Need-shared-slice-read-wide
 shared-slice-read-wide c = search needs

@@ -3,7 +3,7 @@ ghost use mathlib.Core.Path.{_≡_};
 ghost use Prim.Native.Nat.{_+_, _≤_, _<_};
 ghost use lib.ListN.{length};
 ghost use Rattle.writing.specs.Laid.{laid};
-ghost use Rattle.numerals.specs.LittleEndian.{wordAt, bytesOf};
+ghost use Rattle.words.specs.LittleEndian.{wordAt, bytesOf};
 
 fn wide(b: u8) -> u64
     ensures { λ r. ⌜ (r ≡ b) × (r < 256) ⌝ }

@@ -1,13 +1,13 @@
--- `numerals::little_endian::write_four` meets its contract. Assumes nothing.
+-- `words::write_four` meets its contract. Assumes nothing.
 use mathlib.Core.Path.{ap, _∙_}
 use lib.ListN.{length-set}
 use native.Mathlib.Omega.{arith}
 use Rattle.writing.specs.Laid.{laid}
 use Rattle.writing.proofs.Laid.{laid-stores}
-use Rattle.numerals.proofs.LittleEndian.{four-bytes}
+use Rattle.words.proofs.LittleEndian.{four-bytes}
 use borrow.Author.Needs.{needs}
-use Rattle.numerals.proofs.little_endian.write_four.Statement.{statement}
-use Rattle.numerals.proofs.little_endian.write_four.Tie as tie
+use Rattle.words.proofs.write_four.Statement.{statement}
+use Rattle.words.proofs.write_four.Tie as tie
 
 cast-out : tie.Need-cast-out
 cast-out c = search needs
