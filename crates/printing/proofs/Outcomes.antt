@@ -1,5 +1,5 @@
 -- What a pass answers is what checking and measuring promise. Assumes nothing.
-use mathlib.Core.Path.{_≡_, refl, sym, ap, subst, _∙_}
+use mathlib.Core.Path.{_≡_, refl, ap, _∙_}
 use mathlib.Core.Bool.{Bool, true}
 use mathlib.Core.List.{List}
 use Prim.Native.Nat.{ℕ}
@@ -11,14 +11,14 @@ use Rattle.parsing.specs.declared.Ended.{Ended}
 use Rattle.parsing.specs.declared.Ended.the-variants.{Finished, Stopped}
 use Rattle.rows.specs.Row.{kindsOf}
 use Rattle.outcomes.specs.Printed.{textsOf, texts, joined, printedText, firstStop, unlessStopped, measuredEnd}
-use Rattle.printing.specs.Passes.{outcomeOf, checkedOf, checkedBy, Filled, Walk}
+use Rattle.printing.specs.Passes.{outcomeOf, checkedOf, checkedBy, Walk}
 use Rattle.outcomes.specs.declared.Outcome.{Outcome}
 use Rattle.outcomes.specs.declared.Outcome.the-variants.{Accepted}
 use Rattle.printing.specs.declared.Tally.{Tally}
 use Rattle.printing.specs.declared.Walked.{Walked}
 use Rattle.printing.proofs.Tallies.{tally-end}
 
-module _ (s row ks : List ℕ) (prints : Bool) (d e : List ℕ) (w : Walked) (out ends : List ℕ) (h : Walk s row ks prints d e w out ends) where
+module _ (s row ks : List ℕ) (prints : Bool) (w : Walked) (h : Walk s row ks prints w) where
   pub walk-checked : checkedBy w ≡ checkedEnd (ended s ks) (placed s ks)
   walk-checked = go (w .end) refl ∙ ap (λ (x : Ended). checkedEnd x (placed s ks)) (h .end)
     where
@@ -27,10 +27,9 @@ module _ (s row ks : List ℕ) (prints : Bool) (d e : List ℕ) (w : Walked) (ou
       go (Stopped number place) q = refl
 
   pub walk-measured : prints ≡ true → ks ≡ kindsOf row → (o : Outcome) → o ≡ outcomeOf (w .end) (w .tally) (w .pieces)
-      → (o ≡ measuredEnd s row (ended s (kindsOf row))) × Filled s row d e o out ends
+      → o ≡ measuredEnd s row (ended s (kindsOf row))
   unfolding measuredEnd printedText texts
-  walk-measured on kinds o q =
-      (q ∙ go (w .end) refl ∙ ap (measuredEnd s row) (h .end ∙ ap (ended s) kinds), subst (λ (x : Outcome). Filled s row d e x out ends) (sym q) (h .filled on))
+  walk-measured on kinds o q = q ∙ go (w .end) refl ∙ ap (measuredEnd s row) (h .end ∙ ap (ended s) kinds)
     where
       go : (x : Ended) → w .end ≡ x → outcomeOf x (w .tally) (w .pieces) ≡ measuredEnd s row x
       go Finished q =
