@@ -2,7 +2,7 @@
 use mathlib.Core.Path.{_≡_, refl, sym, ap, subst, _∙_}
 use mathlib.Core.Bool.{Bool, true, false}
 use mathlib.Core.List.{List, [], _∷_, _++_}
-use Prim.Native.Nat.{ℕ, _+_, _≤_, _<_, max}
+use Prim.Native.Nat.{ℕ, _+_, _<_, max}
 use native.Mathlib.Omega.{arith}
 use lib.ListN.{length, take}
 use lib.Seq.{length-take-le}
@@ -16,16 +16,15 @@ use Rattle.parsing.specs.Listed.{Placed, placed, ended}
 use Rattle.parsing.specs.declared.Piece.{Piece}
 use Rattle.parsing.specs.declared.Cursor.{Cursor}
 use Rattle.parsing.specs.declared.Ended.{Ended}
-use Rattle.parsing.specs.declared.Ended.the-variants.{Finished, Stopped}
 use Rattle.parsing.specs.declared.Step.the-variants.{Found}
 use Rattle.parsing.proofs.Cover.{largest-one}
 use Rattle.parsing.proofs.Sound.{sound}
 use Rattle.pieces.specs.PieceTexts.{pieceText}
 use Rattle.pieces.specs.Ready.{Ready}
-use Rattle.printing.specs.Passes.{counted, tallied, withEnd, laidBehind, shownTexts, walkTexts, laidTexts, laidEnds, TallyBelow, Passed, Walk}
+use Rattle.printing.specs.Passes.{counted, tallied, withEnd, laidBehind, shownTexts, walkTexts, laidTexts, laidEnds, passTally, TallyBelow, Passed, Walk}
 use Rattle.printing.specs.declared.Tally.{Tally}
 use Rattle.printing.specs.declared.Tally.the-variants.{Length, Stops}
-use Rattle.printing.proofs.Reached.{Reached, reached-start, next-inside, taken-next, reached-next, reached-end, all-taken, all-counted}
+use Rattle.printing.proofs.Reached.{Reached, reached-start, next-inside, taken-next, reached-next}
 use Rattle.printing.proofs.Tallies.{tallied-one}
 use Rattle.printing.proofs.Fitting.{texts-none, ends-none}
 use Rattle.printing.proofs.Next.{bytes-next, slots-next}
@@ -39,7 +38,7 @@ pub record Laying (s row ks : List ℕ) (prints : Bool) (d e : List ℕ) (k : �
   pub reached : Reached s ks k c
   largest : m ≡ largestOf (take k (placed s ks))
   pub below : TallyBelow k t
-  tally : prints ≡ true → t ≡ tallied s row (Length 0) (take k (placed s ks))
+  tally : t ≡ passTally prints s row (take k (placed s ks))
   bytes : out ≡ laidTexts (passTexts prints s row (take k (placed s ks))) d
   slots : ends ≡ laidEnds (passTexts prints s row (take k (placed s ks))) e
   pub as-long : length out ≡ length d
@@ -65,7 +64,7 @@ module _ {s row ks : List ℕ} {prints : Bool} {d e : List ℕ} where
     reached = reached-start q;
     largest = refl;
     below = omega arith;
-    tally = λ _. refl;
+    tally = by-test (λ (x : Tally). Length 0 ≡ x) prints _ _ (λ _. refl) (λ _. refl);
     bytes = by-test (λ (ts : List (List ℕ)). d ≡ laidTexts ts d) prints _ _ (λ _. texts-none d) (λ _. texts-none d);
     slots = by-test (λ (ts : List (List ℕ)). e ≡ laidEnds ts e) prints _ _ (λ _. ends-none e) (λ _. ends-none e);
     as-long = refl;
@@ -97,13 +96,14 @@ module _ {s row ks : List ℕ} {prints : Bool} {d e : List ℕ} where
       -- that is only read
       pub laying-read : prints ≡ false → Laying s row ks prints d e (k + 1) n t (max m (argumentOf p)) out ends
       laying-read off =
+          let zero : (ps : List Placed) → passTally prints s row ps ≡ Length 0 = λ ps. ap (λ (b : Bool). passTally b s row ps) off in
           let none : (ps : List Placed) → passTexts prints s row ps ≡ [] = λ ps. ap (λ (b : Bool). passTexts b s row ps) off in
           let same = none (take k (placed s ks)) ∙ sym (none (take (k + 1) (placed s ks))) in
           record {
             reached = reached-next (w .reached) inside room f;
             largest = largest-next;
             below = below-more k t (w .below);
-            tally = λ on. absurd (let z : _≡_ {A = ℕ} 0 1 = cc in omega arith);
+            tally = w .tally ∙ zero (take k (placed s ks)) ∙ sym (zero (take (k + 1) (placed s ks)));
             bytes = w .bytes ∙ ap (λ (ts : List (List ℕ)). laidTexts ts d) same;
             slots = w .slots ∙ ap (λ (ts : List (List ℕ)). laidEnds ts e) same;
             as-long = w .as-long;
@@ -116,53 +116,44 @@ module _ {s row ks : List ℕ} {prints : Bool} {d e : List ℕ} where
         shown : (ps : List Placed) → passTexts prints s row ps ≡ shownTexts s row ps
         shown ps = ap (λ (b : Bool). passTexts b s row ps) on
 
+        added-up : (ps : List Placed) → passTally prints s row ps ≡ tallied s row (Length 0) ps
+        added-up ps = ap (λ (b : Bool). passTally b s row ps) on
+
         pub laying-printed : length out′ ≡ length out → length ends′ ≡ length ends
             → Laying s row ks prints d e (k + 1) n r (max m (argumentOf p)) out′ ends′
         unfolding one
         laying-printed long many =
             let before = take k (placed s ks) in
             let is = shown before in
+            let total = w .tally ∙ added-up before in
+            let b = bytes-next s row before one _ is total d (w .bytes) (w .as-long) bytes in
+            let z = slots-next s row before one _ is total e count (w .slots) (w .as-many) counts slot in
             let texts = ap (shownTexts s row) (sym taken) ∙ sym (shown (take (k + 1) (placed s ks))) in
-            let total = w .tally on in
             record {
               reached = reached-next (w .reached) inside room f;
               largest = largest-next;
               below = below;
-              tally = λ _. counts ∙ ap (counted s row p (c .at)) total
-                  ∙ sym (ap (tallied s row (Length 0)) taken ∙ tallied-one s row (Length 0) before one);
-              bytes = bytes-next s row before one _ is d e count (w .bytes) (w .slots) (w .as-long) (w .as-many) total bytes ∙ ap (λ (ts : List (List ℕ)). laidTexts ts d) texts;
-              slots = slots-next s row before one _ is d e count (w .bytes) (w .slots) (w .as-long) (w .as-many) total counts slot ∙ ap (λ (ts : List (List ℕ)). laidEnds ts e) texts;
+              tally =
+                  counts ∙ ap (counted s row p (c .at)) total
+                  ∙ sym (added-up (take (k + 1) (placed s ks)) ∙ ap (tallied s row (Length 0)) taken ∙ tallied-one s row (Length 0) before one);
+              bytes = b ∙ ap (λ (ts : List (List ℕ)). laidTexts ts d) texts;
+              slots = z ∙ ap (λ (ts : List (List ℕ)). laidEnds ts e) texts;
               as-long = long ∙ w .as-long;
               as-many = many ∙ w .as-many;
             }
 
-    -- behind the last piece: what is left
+    -- behind the last piece, at a refusal or the end: what is answered and what is left
     module _ (all : take k (placed s ks) ≡ placed s ks) where
+      pub walk-answer : {x : Ended} → x ≡ ended s ks → Walk s row ks prints (record { end = x; tally = t; pieces = k; largest = m })
+      walk-answer end = record {
+        end = end;
+        tally = w .tally ∙ ap (passTally prints s row) all;
+        pieces = sym (length-take-le k (placed s ks) (w .reached .inside)) ∙ ap length all;
+        largest = w .largest ∙ ap largestOf all;
+      }
+
       pub walk-bytes : out ≡ laidTexts (walkTexts prints s row ks) d
       walk-bytes = w .bytes ∙ ap (λ (ps : List Placed). laidTexts (passTexts prints s row ps) d) all
 
       pub walk-slots : ends ≡ laidEnds (walkTexts prints s row ks) e
       walk-slots = w .slots ∙ ap (λ (ps : List Placed). laidEnds (passTexts prints s row ps) e) all
-
-    -- at a refusal, and behind the last byte: what is answered
-    pub walk-stopped : {x : Ended} {number place : ℕ} → x ≡ Stopped number place → ended s ks ≡ Stopped number place
-        → Walk s row ks prints (record { end = x; tally = t; pieces = k; largest = m })
-    walk-stopped {x} q h = record {
-      end = q ∙ sym h;
-      pieces = λ i. absurd (never i);
-      largest = λ i. absurd (never i);
-      tally = λ _ i. absurd (never i);
-    }
-      where
-        never : x ≡ Finished → ⊥
-        never i = let z : _≡_ {A = ℕ} 0 1 = cc in omega arith
-
-    pub walk-finished : length s ≤ c .at → Walk s row ks prints (record { end = Finished; tally = t; pieces = k; largest = m })
-    walk-finished behind =
-        let all = all-taken (w .reached) behind in
-        record {
-          end = sym (reached-end (w .reached) behind);
-          pieces = λ _. all-counted (w .reached) behind;
-          largest = λ _. w .largest ∙ ap largestOf all;
-          tally = λ on _. w .tally on ∙ ap (tallied s row (Length 0)) all;
-        }

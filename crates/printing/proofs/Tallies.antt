@@ -2,13 +2,13 @@
 use mathlib.Core.Path.{_≡_, refl, ap, _∙_}
 use mathlib.Core.List.{List, [], _∷_, _++_}
 use mathlib.Core.Option.{Option, none, some}
-use Prim.Native.Nat.{ℕ, zero, suc, _+_, _<_}
+use Prim.Native.Nat.{ℕ, _+_}
 use native.Mathlib.Omega.{arith}
-use lib.ListN.{length, getD, take, length-append}
+use lib.ListN.{length, length-append}
 use Rattle.parsing.specs.Listed.{Placed}
 use Rattle.elements.specs.Texts.{Shown, Text, Stops, textOf, stopOf}
 use Rattle.elements.specs.Sizes.{sizeOf}
-use Rattle.pieces.specs.PieceTexts.{shownPiece, pieceText, pieceStop}
+use Rattle.pieces.specs.PieceTexts.{shownPiece}
 use Rattle.outcomes.specs.Printed.{textsOf, joined, Stop, stopAt, firstStop, unlessStopped}
 use Rattle.printing.specs.Passes.{added, counted, tallied, outcomeOf}
 use Rattle.outcomes.specs.declared.Outcome.the-variants.{Accepted}

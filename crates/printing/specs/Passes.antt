@@ -119,10 +119,6 @@ pub record Staged (s row d e out ends : List ℕ) : Type 0 where
   pub bytes : out ≡ laidTexts (stagedTexts s row) d
   pub slots : ends ≡ laidEnds (stagedTexts s row) e
 
--- The texts that a pass comes to: none where it only reads.
-abbrev pub walkTexts : Bool → List ℕ → List ℕ → List ℕ → List (List ℕ)
-walkTexts prints s row ks = choose prints (λ _. shownTexts s row (placed s ks)) (λ _. [])
-
 -- Where the next piece goes: behind the length so far, or nowhere.
 abbrev pub behind : Tally → ℕ → ℕ
 behind (Length n) room = min n room
@@ -138,9 +134,16 @@ abbrev pub laidBehind : Tally → List ℕ → List ℕ → List ℕ
 laidBehind (Length n) d t = choose (leb (n + length t) (length d)) (λ _. laid d (take n d ++ t)) (λ _. d)
 laidBehind (Stops number place) d t = d
 
--- What a pass over a format and kinds answers.
+-- The texts that a pass comes to, and what it adds up over pieces: none and nothing where it only reads.
+abbrev pub walkTexts : Bool → List ℕ → List ℕ → List ℕ → List (List ℕ)
+walkTexts prints s row ks = choose prints (λ _. shownTexts s row (placed s ks)) (λ _. [])
+
+abbrev pub passTally : Bool → List ℕ → List ℕ → List Placed → Tally
+passTally prints s row ps = choose prints (λ _. tallied s row (Length 0) ps) (λ _. Length 0)
+
+-- What a pass over a format and kinds answers: of the pieces before a refusal, or of all.
 pub record Walk (s row ks : List ℕ) (prints : Bool) (r : Walked) : Type 0 where
   pub end : r .end ≡ ended s ks
-  pub pieces : r .end ≡ Finished → r .pieces ≡ length (placed s ks)
-  pub largest : r .end ≡ Finished → r .largest ≡ largestOf (placed s ks)
-  pub tally : prints ≡ true → r .end ≡ Finished → r .tally ≡ tallied s row (Length 0) (placed s ks)
+  pub tally : r .tally ≡ passTally prints s row (placed s ks)
+  pub pieces : r .pieces ≡ length (placed s ks)
+  pub largest : r .largest ≡ largestOf (placed s ks)

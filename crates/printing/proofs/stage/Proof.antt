@@ -1,6 +1,6 @@
 -- `printing::stage` meets its contract. Assumes nothing.
 use Prim.Native.Nat.{ℕ, _+_, _-_}
-use mathlib.Core.Path.{_≡_, refl, sym, ap, _∙_}
+use mathlib.Core.Path.{_≡_, sym, ap, _∙_}
 use mathlib.Core.Bool.{true}
 use lib.ListN.{length, take, drop}
 use native.Mathlib.Omega.{arith}
@@ -117,7 +117,7 @@ returns-4 c =
     let k = w .before .before .before .before in
     let a = entry (reading k) .args in
     let v = w .walk .ensures in
-    let m = walk-measured (a .fmt .now) (a .row .now) _ true _ (v .0) refl (passed k .kinds) _ (c .outcome-of .ensures) in
+    let m = c .outcome-of .ensures ∙ walk-measured (a .fmt .now) (a .row .now) _ _ (v .0) (passed k .kinds) in
     let texts = ap (walkTexts true (a .fmt .now) (a .row .now)) (passed k .kinds) ∙ sym (tested (reading k) .1 ∙ simp (read k .0)) in (
       m ∙ sym (tested (reading k) .0 ∙ simp (read k .0)),
       staged-by (a .fmt .now) (a .row .now) (a .out .now) (a .ends .now) _ texts (v .1 .0) (v .1 .1),

@@ -1,6 +1,6 @@
 -- `printing::walk` meets its contract. The loop's invariant: `Laying`, of the pieces so far; its measure is what is left of the format. Assumes nothing.
 use Prim.Native.Nat.{_-_, _<_, max}
-use mathlib.Core.Path.{_≡_, refl, sym, ap, subst, _∙_}
+use mathlib.Core.Path.{_≡_, sym, ap, subst, _∙_}
 use mathlib.Core.Bool.{Bool, true}
 use mathlib.Core.Logic.{⊎-elim}
 use lib.ListN.{length}
@@ -11,9 +11,9 @@ use Rattle.parsing.specs.declared.Step.{Step}
 use Rattle.parsing.specs.declared.Step.the-variants.{Found}
 use Rattle.parsing.proofs.Progress.{advanced}
 use Rattle.printing.specs.Passes.{Walkable, Passed, StopsAt}
-use Rattle.printing.proofs.Reached.{reached-full, reached-refused, all-taken}
+use Rattle.printing.proofs.Reached.{reached-full, reached-refused, reached-end}
 use Rattle.printing.proofs.Laying.{Laying, piece-ready, laying-as, laying-start, laying-read, laying-printed}
-use Rattle.printing.proofs.Laying.{walk-bytes, walk-slots, walk-stopped, walk-finished}
+use Rattle.printing.proofs.Laying.{walk-answer, walk-bytes, walk-slots}
 use borrow.Author.Needs.{needs}
 use Rattle.printing.proofs.walk.Statement.{statement}
 use Rattle.printing.proofs.walk.Tie as tie
@@ -48,7 +48,7 @@ returns : tie.Need-returns Inv-loop μ-loop
 returns c =
     let l = c .before .before .before .loop in
     let full = reached-full (l .inv .reached) (c .before .if1 .taken) (c .if2 .taken) in
-    (walk-stopped (l .inv) refl (full .0), (walk-bytes (l .inv) (full .1), walk-slots (l .inv) (full .1)))
+    (walk-answer (l .inv) (full .1) (sym (full .0)), (walk-bytes (l .inv) (full .1), walk-slots (l .inv) (full .1)))
 
 next-piece-requires : tie.Need-next-piece-requires Inv-loop μ-loop
 next-piece-requires c κs = search needs
@@ -74,8 +74,9 @@ returns-2 c =
     let l = tried .before .before .before .loop in
     let refused = c .before .enum-told .given .1 in
     let at = subst (λ (x : Step). StopsAt x (l .c .at) (c .stopped .result)) refused (c .stopped .ensures) in
-    let tail = reached-refused (l .inv .reached) (tried .before .if1 .taken) (tried .if2 .left) (sym (c .before .before .before .next-piece .ensures) ∙ refused) in
-    (walk-stopped (l .inv) at (tail .0), (walk-bytes (l .inv) (tail .1), walk-slots (l .inv) (tail .1)))
+    let step = sym (c .before .before .before .next-piece .ensures) ∙ refused in
+    let tail = reached-refused (l .inv .reached) (tried .before .if1 .taken) (tried .if2 .left) step in
+    (walk-answer (l .inv) (tail .1) (at ∙ sym (tail .0)), (walk-bytes (l .inv) (tail .1), walk-slots (l .inv) (tail .1)))
 
 -- a piece is found: the loop around it, and what its tests say
 abbrev around : tie.After-known-told Inv-loop μ-loop → tie.At-loop Inv-loop μ-loop
@@ -134,8 +135,8 @@ same-length-6 c = search needs
 returns-3 : tie.Need-returns-3 Inv-loop μ-loop
 returns-3 c =
     let l = c .before .before .loop in
-    let all = all-taken (l .inv .reached) (c .if1 .left) in
-    (walk-finished (l .inv) (c .if1 .left), (walk-bytes (l .inv) all, walk-slots (l .inv) all))
+    let past = reached-end (l .inv .reached) (c .if1 .left) in
+    (walk-answer (l .inv) (past .1) (sym (past .0)), (walk-bytes (l .inv) (past .1), walk-slots (l .inv) (past .1)))
 
 pub walk-spec : {M : Type 1} → statement M
 walk-spec =
