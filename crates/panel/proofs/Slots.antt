@@ -9,8 +9,9 @@ use Rattle.writing.specs.Laid.{laid}
 use Rattle.parsing.specs.Listed.{placed}
 use Rattle.rows.specs.Row.{kindsOf}
 use Rattle.rows.proofs.Rows.{AllBytes}
-use Rattle.outcomes.specs.Printed.{texts, printedText, endsFrom, measured, printed, written}
-use Rattle.printing.specs.Passes.{Filled}
+use Rattle.outcomes.specs.Printed.{texts, printedText, endsFrom, printed, written}
+use Rattle.printing.specs.Passes.{Staged}
+use Rattle.printing.proofs.Staged.{staged-text, staged-ends}
 use Rattle.outcomes.specs.Demand.{Demanded}
 use Rattle.outcomes.specs.declared.Outcome.{Outcome}
 use Rattle.outcomes.specs.declared.Outcome.the-variants.{Accepted, Refused}
@@ -36,15 +37,16 @@ module _ (s row : List ℕ) where
   as-many = ends-length 0 (texts s row) ∙ texts-length s row (placed s (kindsOf row))
 
   -- Of what is printed: what a pass leaves of D and E, and that it can be taken from there again.
-  module _ (room m n k : ℕ) (f : Fitted s row room m n k) (D E out ends : List ℕ) (r : Outcome) (q : r ≡ measured s row) (w : Filled s row D E r out ends) where
-    pub filled-of : n ≤ length D → k ≤ length E → (out ≡ laid D (printedText s row)) × (ends ≡ laid E (endsFrom 0 (texts s row)))
-    filled-of h j =
-        subst (λ (o : Outcome). Filled s row D E o out ends) (q ∙ f .answer) w
-        (record { bytes = omega (arith, f .accepts .total); wide = omega (arith, f .accepts .total, f .wide); slots = omega (arith, f .accepts .pieces) })
+  module _ (room m n k : ℕ) (f : Fitted s row room m n k) (D E out ends : List ℕ) (w : Staged s row D E out ends) where
+    pub text-of : n ≤ length D → out ≡ laid D (printedText s row)
+    text-of h = staged-text s row (f .answer) w (omega (arith, f .accepts .total))
 
-    pub ends-of : n ≤ length D → k ≤ length E → take k ends ≡ endsFrom 0 (texts s row)
+    pub ends-of : k ≤ length E → take k ends ≡ endsFrom 0 (texts s row)
     unfolding laid
-    ends-of h j = let Z = endsFrom 0 (texts s row) in ap (take k) (filled-of h j .1) ∙ take-at Z (drop (length Z) E) k (as-many ∙ sym (f .accepts .pieces))
+    ends-of h =
+        let Z = endsFrom 0 (texts s row) in
+        let all = staged-ends s row (f .answer) w (omega (arith, f .accepts .pieces)) (omega (arith, f .accepts .total, f .wide)) in
+        ap (take k) all ∙ take-at Z (drop (length Z) E) k (as-many ∙ sym (f .accepts .pieces))
 
     pub holds : length out ≡ length D → length ends ≡ length E → Holds s row n k out ends
     unfolding laid
@@ -52,7 +54,7 @@ module _ (s row : List ℕ) where
         let T = printedText s row in
         let n-fits : n ≤ length D = omega (arith, long) in
         let k-fits : k ≤ length E = omega (arith, many) in
-        (ap (take n) (filled-of n-fits k-fits .0) ∙ take-at T (drop (length T) D) n (sym (f .accepts .total)), ends-of n-fits k-fits)
+        (ap (take n) (text-of n-fits) ∙ take-at T (drop (length T) D) n (sym (f .accepts .total)), ends-of k-fits)
 
   -- demand 3 of the bytes, read as ends
   small : (room m n k : ℕ) → Fitted s row room m n k → (i : ℕ) → i < length (endsFrom 0 (texts s row)) → getD (endsFrom 0 (texts s row)) i 0 < 2 ^ 32

@@ -1,30 +1,22 @@
 -- Where reading stands behind k pieces of a format: what is left of its pieces, and where it ends. Assumes nothing.
 use mathlib.Core.Path.{_≡_, refl, sym, ap, _∙_}
 use mathlib.Core.List.{List, [], _∷_, _++_}
-use Prim.Native.Nat.{ℕ, zero, suc, _+_, _-_, _≤_, _<_, max}
-use native.Mathlib.Nat.{max-comm}
+use Prim.Native.Nat.{ℕ, suc, _+_, _-_, _≤_, _<_}
 use native.Mathlib.Omega.{arith}
-use lib.Dec.{ltb}
-use lib.ListN.{length, getD, take, drop, length-drop}
-use borrow.Author.Tests.{ltb-true}
+use lib.ListN.{length, take, drop}
 use Rattle.refusals.specs.Limits.{mostPieces}
-use Rattle.writing.proofs.Choose.{by-test}
 use Rattle.parsing.specs.Pieces.{start, pieceAt}
-use Rattle.parsing.specs.Check.{argumentOf, largestOf}
-use Rattle.parsing.specs.Covers.{PieceIn}
-use Rattle.parsing.specs.Listed.{Placed, andRest, placedFrom, placed, endFrom, ended}
+use Rattle.parsing.specs.Listed.{placedFrom, placed, endFrom, ended}
 use Rattle.parsing.specs.declared.Piece.{Piece}
 use Rattle.parsing.specs.declared.Cursor.{Cursor}
-use Rattle.parsing.specs.declared.Step.{Step}
 use Rattle.parsing.specs.declared.Step.the-variants.{Found, Refused}
 use Rattle.parsing.specs.declared.Ended.the-variants.{Finished, Stopped}
-use Rattle.parsing.proofs.Sound.{sound}
-use Rattle.parsing.proofs.Iteration.{placed-found, end-found, end-refused, end-many, placed-past, end-past}
+use Rattle.parsing.proofs.Iteration.{placed-found, placed-refused, placed-none, placed-past, end-found, end-refused, end-many, end-past}
 use Rattle.outcomes.proofs.Joined.{next-below, next-rest, next-taken, none-left}
 
 pub record Reached (s ks : List ℕ) (k : ℕ) (c : Cursor) : Type 0 where
   few : k ≤ mostPieces
-  inside : k ≤ length (placed s ks)
+  pub inside : k ≤ length (placed s ks)
   rest : drop k (placed s ks) ≡ placedFrom (mostPieces - k) (pieceAt s ks) (length s) c
   end : endFrom (mostPieces - k) (pieceAt s ks) (length s) c ≡ ended s ks
 
@@ -36,10 +28,13 @@ module _ {s ks : List ℕ} {k : ℕ} {c : Cursor} (at : Reached s ks k c) where
   -- a piece begins
   module _ (inside : c .at < length s) where
     -- and is one too many
-    pub reached-full : mostPieces ≤ k → ended s ks ≡ Stopped 13 (c .at)
+    pub reached-full : mostPieces ≤ k → (ended s ks ≡ Stopped 13 (c .at)) × (take k (placed s ks) ≡ placed s ks)
     reached-full h =
         let z : mostPieces - k ≡ 0 = omega arith in
-        sym (at .end) ∙ ap (λ (n : ℕ). endFrom n (pieceAt s ks) (length s) c) z ∙ end-many (pieceAt s ks) (length s) c inside
+        let none = at .rest ∙ ap (λ (n : ℕ). placedFrom n (pieceAt s ks) (length s) c) z ∙ placed-none (pieceAt s ks) (length s) c in (
+          sym (at .end) ∙ ap (λ (n : ℕ). endFrom n (pieceAt s ks) (length s) c) z ∙ end-many (pieceAt s ks) (length s) c inside,
+          none-left k (placed s ks) none,
+        )
 
     module _ (room : k < mostPieces) where
       left : mostPieces - k ≡ suc (mostPieces - (k + 1))
@@ -48,16 +43,19 @@ module _ {s ks : List ℕ} {k : ℕ} {c : Cursor} (at : Reached s ks k c) where
       end-left : endFrom (suc (mostPieces - (k + 1))) (pieceAt s ks) (length s) c ≡ ended s ks
       end-left = sym (ap (λ (n : ℕ). endFrom n (pieceAt s ks) (length s) c) left) ∙ at .end
 
-      pub reached-refused : {number : ℕ} → pieceAt s ks c ≡ Refused number → ended s ks ≡ Stopped number (c .at)
-      reached-refused {number} e = sym end-left ∙ end-refused (pieceAt s ks) (length s) c inside (mostPieces - (k + 1)) number e
+      rest-left : drop k (placed s ks) ≡ placedFrom (suc (mostPieces - (k + 1))) (pieceAt s ks) (length s) c
+      rest-left = at .rest ∙ ap (λ (m : ℕ). placedFrom m (pieceAt s ks) (length s) c) left
+
+      pub reached-refused : {number : ℕ} → pieceAt s ks c ≡ Refused number → (ended s ks ≡ Stopped number (c .at)) × (take k (placed s ks) ≡ placed s ks)
+      reached-refused {number} e = (
+        sym end-left ∙ end-refused (pieceAt s ks) (length s) c inside (mostPieces - (k + 1)) number e,
+        none-left k (placed s ks) (rest-left ∙ placed-refused (pieceAt s ks) (length s) c inside (mostPieces - (k + 1)) number e),
+      )
 
       module _ {p : Piece} {n : Cursor} (e : pieceAt s ks c ≡ Found p n) where
         next-piece : drop k (placed s ks)
             ≡ record { piece = p; from = c .at; to = n .at } ∷ placedFrom (mostPieces - (k + 1)) (pieceAt s ks) (length s) n
-        next-piece =
-            at .rest
-            ∙ ap (λ (m : ℕ). placedFrom m (pieceAt s ks) (length s) c) left
-            ∙ placed-found (pieceAt s ks) (length s) c inside (mostPieces - (k + 1)) p n e
+        next-piece = rest-left ∙ placed-found (pieceAt s ks) (length s) c inside (mostPieces - (k + 1)) p n e
 
         one-more : k + 1 ≡ suc k
         one-more = omega arith
@@ -77,17 +75,8 @@ module _ {s ks : List ℕ} {k : ℕ} {c : Cursor} (at : Reached s ks k c) where
         }
 
   -- behind the format's last byte
-  module _ (behind : length s ≤ c .at) where
-    pub reached-end : ended s ks ≡ Finished
-    reached-end = sym (at .end) ∙ end-past (pieceAt s ks) (length s) (mostPieces - k) c behind
-
-    all-gone : drop k (placed s ks) ≡ []
-    all-gone = at .rest ∙ placed-past (pieceAt s ks) (length s) (mostPieces - k) c behind
-
-    pub all-taken : take k (placed s ks) ≡ placed s ks
-    all-taken = none-left k (placed s ks) all-gone
-
-    pub all-counted : k ≡ length (placed s ks)
-    all-counted =
-        let z : length (placed s ks) - k ≡ 0 = sym (length-drop k (placed s ks)) ∙ ap length all-gone in
-        omega (arith, at .inside)
+  pub reached-end : length s ≤ c .at → (ended s ks ≡ Finished) × (take k (placed s ks) ≡ placed s ks)
+  reached-end behind = (
+    sym (at .end) ∙ end-past (pieceAt s ks) (length s) (mostPieces - k) c behind,
+    none-left k (placed s ks) (at .rest ∙ placed-past (pieceAt s ks) (length s) (mostPieces - k) c behind),
+  )

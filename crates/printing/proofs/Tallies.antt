@@ -2,15 +2,14 @@
 use mathlib.Core.Path.{_≡_, refl, ap, _∙_}
 use mathlib.Core.List.{List, [], _∷_, _++_}
 use mathlib.Core.Option.{Option, none, some}
-use Prim.Native.Nat.{ℕ, zero, suc, _+_, _<_}
+use Prim.Native.Nat.{ℕ, _+_}
 use native.Mathlib.Omega.{arith}
-use lib.ListN.{length, getD, take, length-append}
+use lib.ListN.{length, length-append}
 use Rattle.parsing.specs.Listed.{Placed}
 use Rattle.elements.specs.Texts.{Shown, Text, Stops, textOf, stopOf}
 use Rattle.elements.specs.Sizes.{sizeOf}
-use Rattle.pieces.specs.PieceTexts.{shownPiece, pieceText, pieceStop}
+use Rattle.pieces.specs.PieceTexts.{shownPiece}
 use Rattle.outcomes.specs.Printed.{textsOf, joined, Stop, stopAt, firstStop, unlessStopped}
-use Rattle.outcomes.proofs.Texts.{stop-part}
 use Rattle.printing.specs.Passes.{added, counted, tallied, outcomeOf}
 use Rattle.outcomes.specs.declared.Outcome.the-variants.{Accepted}
 use Rattle.printing.specs.declared.Tally.{Tally}
@@ -18,7 +17,7 @@ use Rattle.printing.specs.declared.Tally.the-variants as T
 use Rattle.parsing.specs.declared.Ended.the-variants.{Finished}
 
 -- A length, unless a piece stops the count.
-abbrev unlessStop : Option Stop → ℕ → Tally
+abbrev pub unlessStop : Option Stop → ℕ → Tally
 unlessStop none n = T.Length n
 unlessStop (some t) n = T.Stops (t .number) (t .place)
 
@@ -50,14 +49,10 @@ module _ (s row : List ℕ) where
       go (Stops number) ih = tallied-stops number (p .from) ps
 
   -- What is added up over some pieces.
-  tally-is : (ps : List Placed) → tallied s row (T.Length 0) ps ≡ unlessStop (firstStop s row ps) (length (joined (textsOf s row ps)))
+  pub tally-is : (ps : List Placed) → tallied s row (T.Length 0) ps ≡ unlessStop (firstStop s row ps) (length (joined (textsOf s row ps)))
   tally-is ps =
       let e : 0 + length (joined (textsOf s row ps)) ≡ length (joined (textsOf s row ps)) = omega arith in
       tallied-from 0 ps ∙ ap (unlessStop (firstStop s row ps)) e
-
-  pub tally-length : (k : ℕ) (ps : List Placed) → firstStop s row ps ≡ none
-      → tallied s row (T.Length 0) (take k ps) ≡ T.Length (length (joined (textsOf s row (take k ps))))
-  tally-length k ps e = tally-is (take k ps) ∙ ap (λ (x : Option Stop). unlessStop x (length (joined (textsOf s row (take k ps))))) (stop-part s row k ps e)
 
   -- read to its end
   pub tally-end : (ps : List Placed) (k : ℕ) → outcomeOf Finished (tallied s row (T.Length 0) ps) k

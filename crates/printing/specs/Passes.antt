@@ -1,12 +1,15 @@
 -- What one pass over the pieces adds up and leaves, and what its steps do: for the contracts of `walk` and of the functions that it is made of. Nothing
 -- in the promises of checking, measuring and printing speaks of these.
-use Prim.Native.Nat.{ℕ, _+_, _*_, _%_, _^_, _≤_, min}
+use Prim.Native.Nat.{ℕ, _+_, _-_, _*_, _%_, _^_, _≤_, min}
 use mathlib.Core.Path.{_≡_}
-use mathlib.Core.Bool.{Bool, true, false}
-use mathlib.Core.List.{List, [], _∷_, _++_}
+use mathlib.Core.Bool.{Bool, true, false, _&&_}
+use mathlib.Core.List.{List, [], _∷_, _++_, map}
+use lib.Dec.{leb}
 use lib.ListN.{length, take, set}
-use Rattle.refusals.specs.Limits.{mostFormat, largestEnd}
+use Rattle.refusals.specs.Limits.{mostFormat}
+use Rattle.writing.specs.Choose.{choose}
 use Rattle.writing.specs.Laid.{laid}
+use Rattle.utf8.specs.Utf8.{wellFormed}
 use Rattle.parsing.specs.Listed.{Placed, placed, ended}
 use Rattle.parsing.specs.Check.{largestOf}
 use Rattle.parsing.specs.declared.Piece.{Piece}
@@ -17,16 +20,17 @@ use Rattle.parsing.specs.declared.Checked.the-variants as C
 use Rattle.parsing.specs.declared.Ended.{Ended}
 use Rattle.parsing.specs.declared.Ended.the-variants.{Finished, Stopped}
 use Rattle.rows.specs.Row.{kindsOf, isRow}
+use Rattle.elements.specs.Texts as T
 use Rattle.elements.specs.Sizes.{sizeOf}
 use Rattle.elements.specs.declared.Size.{Size}
 use Rattle.elements.specs.declared.Size.the-variants as S
-use Rattle.pieces.specs.PieceTexts.{shownPiece, pieceText}
+use Rattle.pieces.specs.PieceTexts.{shownPiece}
 use Rattle.outcomes.specs.declared.Outcome.{Outcome}
 use Rattle.outcomes.specs.declared.Outcome.the-variants.{Accepted, Refused}
 use Rattle.printing.specs.declared.Tally.{Tally}
 use Rattle.printing.specs.declared.Tally.the-variants.{Length, Stops}
 use Rattle.printing.specs.declared.Walked.{Walked}
-use Rattle.outcomes.specs.Printed.{texts, printedText, endsFrom}
+use Rattle.outcomes.specs.Printed.{endsFrom}
 
 -- A pass, piece by piece: the length so far, or the first piece that is not printed.
 abbrev pub addSize : ℕ → ℕ → Size → Tally
@@ -80,16 +84,40 @@ abbrev pub Walkable : Bool → List ℕ → List ℕ → List ℕ → Type 0
 Walkable true s row ks = Passed s row ks
 Walkable false s row ks = Unit {0}
 
--- That 17 is excluded.
-pub record Room (s row out ends : List ℕ) : Type 0 where
-  pub bytes : length (printedText s row) ≤ length out
-  pub wide : length (printedText s row) ≤ largestEnd
-  pub slots : length (placed s (kindsOf row)) ≤ length ends
+-- The texts of pieces up to the first that is not printed.
+abbrev pub upTo : T.Shown → List (List ℕ) → List (List ℕ)
+upTo (T.Text t) others = t ∷ others
+upTo (T.Stops number) others = []
 
--- What a pass leaves of d and e, of an accepted format and row: the text and its ends, where these have room.
-abbrev pub Filled : List ℕ → List ℕ → List ℕ → List ℕ → Outcome → List ℕ → List ℕ → Type 0
-Filled s row d e (Accepted n k) out ends = Room s row d e → (out ≡ laid d (printedText s row)) × (ends ≡ laid e (endsFrom 0 (texts s row)))
-Filled s row d e (Refused number place) out ends = Unit {0}
+unfoldable pub shownTexts : List ℕ → List ℕ → List Placed → List (List ℕ)
+shownTexts s row [] = []
+shownTexts s row (p ∷ ps) = upTo (shownPiece s row (p .piece)) (shownTexts s row ps)
+
+-- Texts one behind the other, up to the first that has no room.
+unfoldable pub fitting : ℕ → List (List ℕ) → List ℕ
+fitting room [] = []
+fitting room (t ∷ ts) = choose (leb (length t) room) (λ _. t ++ fitting (room - length t) ts) (λ _. [])
+
+-- Their ends, each in 32 bits, as many as there are slots; whether the text has room does not matter.
+abbrev pub lowEnds : ℕ → List (List ℕ) → List ℕ
+lowEnds slots ts = take slots (map (λ n. n % 4294967296) (endsFrom 0 ts))
+
+-- What texts leave of d, and their ends of e.
+abbrev pub laidTexts : List (List ℕ) → List ℕ → List ℕ
+laidTexts ts d = laid d (fitting (length d) ts)
+
+abbrev pub laidEnds : List (List ℕ) → List ℕ → List ℕ
+laidEnds ts e = laid e (lowEnds (length e) ts)
+
+-- The texts that a call comes to: those of the pieces before one that is refused or not printed; none where 1, 2 or 14 stops the call.
+unfoldable pub stagedTexts : List ℕ → List ℕ → List (List ℕ)
+stagedTexts s row =
+    choose (leb (length s) mostFormat && wellFormed s && isRow row) (λ _. shownTexts s row (placed s (kindsOf row))) (λ _. [])
+
+-- What `stage` leaves of d and e, of every format and row.
+pub record Staged (s row d e out ends : List ℕ) : Type 0 where
+  pub bytes : out ≡ laidTexts (stagedTexts s row) d
+  pub slots : ends ≡ laidEnds (stagedTexts s row) e
 
 -- Where the next piece goes: behind the length so far, or nowhere.
 abbrev pub behind : Tally → ℕ → ℕ
@@ -101,17 +129,21 @@ abbrev pub withEnd : ℕ → Tally → List ℕ → List ℕ
 withEnd k (Length n) e = set e k (n % 4294967296)
 withEnd k (Stops number place) e = e
 
--- The k-th piece, which begins at a place: what is added up, the text behind the length so far where it has room, and its end.
-pub record Added (s row : List ℕ) (p : Piece) (at k : ℕ) (t : Tally) (d e : List ℕ) (r : Tally) (out ends : List ℕ) : Type 0 where
-  pub tally : r ≡ counted s row p at t
-  pub below : TallyBelow (k + 1) r
-  pub bytes : (n : ℕ) → t ≡ Length n → n + length (pieceText s row p) ≤ length d → out ≡ laid d (take n d ++ pieceText s row p)
-  pub slot : ends ≡ withEnd k r e
+-- One text behind the length so far where it has room there; else d as it was.
+abbrev pub laidBehind : Tally → List ℕ → List ℕ → List ℕ
+laidBehind (Length n) d t = choose (leb (n + length t) (length d)) (λ _. laid d (take n d ++ t)) (λ _. d)
+laidBehind (Stops number place) d t = d
 
--- What a pass over a format and kinds answers and leaves.
-pub record Walk (s row ks : List ℕ) (prints : Bool) (d e : List ℕ) (r : Walked) (out ends : List ℕ) : Type 0 where
+-- The texts that a pass comes to, and what it adds up over pieces: none and nothing where it only reads.
+abbrev pub walkTexts : Bool → List ℕ → List ℕ → List ℕ → List (List ℕ)
+walkTexts prints s row ks = choose prints (λ _. shownTexts s row (placed s ks)) (λ _. [])
+
+abbrev pub passTally : Bool → List ℕ → List ℕ → List Placed → Tally
+passTally prints s row ps = choose prints (λ _. tallied s row (Length 0) ps) (λ _. Length 0)
+
+-- What a pass over a format and kinds answers: of the pieces before a refusal, or of all.
+pub record Walk (s row ks : List ℕ) (prints : Bool) (r : Walked) : Type 0 where
   pub end : r .end ≡ ended s ks
-  pub pieces : r .end ≡ Finished → r .pieces ≡ length (placed s ks)
-  pub largest : r .end ≡ Finished → r .largest ≡ largestOf (placed s ks)
-  pub tally : prints ≡ true → r .end ≡ Finished → r .tally ≡ tallied s row (Length 0) (placed s ks)
-  pub filled : prints ≡ true → Filled s row d e (outcomeOf (r .end) (r .tally) (r .pieces)) out ends
+  pub tally : r .tally ≡ passTally prints s row (placed s ks)
+  pub pieces : r .pieces ≡ length (placed s ks)
+  pub largest : r .largest ≡ largestOf (placed s ks)

@@ -18,7 +18,9 @@ ghost use Rattle.parsing.specs.declared.Ended.the-variants.{Finished};
 ghost use Rattle.elements.specs.Sizes.{SizeBelow};
 ghost use Rattle.pieces.specs.Ready.{Ready};
 ghost use Rattle.outcomes.specs.Printed.{texts, printedText, endsFrom, measured, ifRoom, printed, written};
-ghost use Rattle.printing.specs.Passes.{TallyBelow, Walkable, Filled, Added, Walk, StopsAt, behind, withEnd, added, outcomeOf, checkedBy};
+ghost use Rattle.pieces.specs.PieceTexts.{pieceText};
+ghost use Rattle.printing.specs.Passes.{TallyBelow, Walkable, Walk, Staged, StopsAt};
+ghost use Rattle.printing.specs.Passes.{behind, withEnd, added, counted, laidBehind, walkTexts, laidTexts, laidEnds, outcomeOf, checkedBy};
 ghost use Rattle.outcomes.specs.Demand.{Demanded};
 
 // What a pass adds up: the length of the pieces so far, or the first of them that is not printed.
@@ -83,7 +85,9 @@ fn add_piece<'a>(
     ends: &mut [u32],
 ) -> Tally
     requires { ⌜ (Ready (now fmt) (now row) piece) × (k < 512) × (TallyBelow k tally) ⌝ }
-    ensures { λ r. ⌜ Added (now (fmt .entry)) (now (row .entry)) piece at k tally (now (out .entry)) (now (ends .entry)) r (now (out .exit)) (now (ends .exit)) ⌝ }
+    ensures { λ r. ⌜ (r ≡ counted (now (fmt .entry)) (now (row .entry)) piece at tally) × (TallyBelow (k + 1) r) ⌝ }
+    ensures { λ r. ⌜ now (out .exit) ≡ laidBehind tally (now (out .entry)) (pieceText (now (fmt .entry)) (now (row .entry)) piece) ⌝ }
+    ensures { λ r. ⌜ now (ends .exit) ≡ withEnd k r (now (ends .entry)) ⌝ }
 {
     let from = place_behind(tally, out.len());
     let size = pieces::put_piece(&mut out[from..], fmt, row, piece);
@@ -133,7 +137,9 @@ fn walk<'a>(
     ends: &mut [u32],
 ) -> Walked
     requires { ⌜ Walkable prints (now fmt) (now row) (now kinds) ⌝ }
-    ensures { λ r. ⌜ Walk (now (fmt .entry)) (now (row .entry)) (now (kinds .entry)) prints (now (out .entry)) (now (ends .entry)) r (now (out .exit)) (now (ends .exit)) ⌝ }
+    ensures { λ r. ⌜ Walk (now (fmt .entry)) (now (row .entry)) (now (kinds .entry)) prints r ⌝ }
+    ensures { λ r. ⌜ now (out .exit) ≡ laidTexts (walkTexts prints (now (fmt .entry)) (now (row .entry)) (now (kinds .entry))) (now (out .entry)) ⌝ }
+    ensures { λ r. ⌜ now (ends .exit) ≡ laidEnds (walkTexts prints (now (fmt .entry)) (now (row .entry)) (now (kinds .entry))) (now (ends .entry)) ⌝ }
 {
     let mut c = parsing::first_cursor();
     let mut tally = Tally::Length(0);
@@ -290,10 +296,11 @@ fn outcome_of(w: Walked) -> Outcome
     }
 }
 
-// The outcome of measuring, and the text and its ends where these have room; what is left otherwise is not said.
+// The outcome of measuring. The texts are written up to the first piece that has no room, is refused or is not printed, and each one's end that has a
+// slot, in 32 bits, whether the text has room or not.
 pub fn stage<'a>(fmt: &'a [u8], row: &'a [u8], out: &mut [u8], ends: &mut [u32]) -> Outcome
     ensures { λ r. ⌜ r ≡ measured (now (fmt .entry)) (now (row .entry)) ⌝ }
-    ensures { λ r. ⌜ Filled (now (fmt .entry)) (now (row .entry)) (now (out .entry)) (now (ends .entry)) r (now (out .exit)) (now (ends .exit)) ⌝ }
+    ensures { λ r. ⌜ Staged (now (fmt .entry)) (now (row .entry)) (now (out .entry)) (now (ends .entry)) (now (out .exit)) (now (ends .exit)) ⌝ }
 {
     if refusals::MOST_FORMAT < fmt.len() {
         return Outcome::Refused {

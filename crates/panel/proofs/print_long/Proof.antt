@@ -10,7 +10,7 @@ use Rattle.parsing.proofs.Cover.{few}
 use Rattle.rows.specs.Row.{kindsOf}
 use Rattle.outcomes.proofs.Accepted.{Fitted, fitted}
 use Rattle.panel.specs.Entries.{allBytes}
-use Rattle.panel.proofs.Slots.{filled-of, ends-of}
+use Rattle.panel.proofs.Slots.{text-of, ends-of}
 use borrow.Author.Needs.{needs}
 use Rattle.panel.proofs.print_long.Statement.{statement}
 use Rattle.panel.proofs.print_long.Tie as tie
@@ -62,10 +62,10 @@ returns c =
     let start = staged .before .before .before .before .before .before .before in
     let a = start .args in
     let k = ok start in
-    let v = staged .stage .ensures in
-    let w = filled-of (a .fmt .now) (a .row .now) _ _ _ _ k _ _ _ _ _ (v .0) (v .1) (k .bytes) (few-pieces start) in
-    let z = ends-of (a .fmt .now) (a .row .now) _ _ _ _ k _ _ _ _ _ (v .0) (v .1) (k .bytes) (few-pieces start) in
-    (w .0, c .before .before .store-ends .ensures ∙ ap (λ (l : List ℕ). laid (a .ends .now) (allBytes l)) z)
+    let v = staged .stage .ensures .1 in
+    let text = text-of (a .fmt .now) (a .row .now) _ _ _ _ k _ _ _ _ v (k .bytes) in
+    let z = ends-of (a .fmt .now) (a .row .now) _ _ _ _ k _ _ _ _ v (few-pieces start) in
+    (text, c .before .before .store-ends .ensures ∙ ap (λ (l : List ℕ). laid (a .ends .now) (allBytes l)) z)
 
 pub print-long-spec : {M : Type 1} → statement M
 print-long-spec =

@@ -63,10 +63,9 @@ print-accepted-requires c κs =
     let fitted-in = known .before .before in
     let staged = fitted-in .before .before .before in
     let a = staged .before .before .before .before .before .before .before .args in
-    let v = staged .stage .ensures in
     let q = answered fitted-in ∙ known .answer .given .1 in
     let f = fitted (a .fmt .now) (a .row .now) _ _ _ _ q in
-    (q, holds (a .fmt .now) (a .row .now) _ _ _ _ f _ _ _ _ _ (v .0) (v .1) (search needs) (search needs))
+    (q, holds (a .fmt .now) (a .row .now) _ _ _ _ f _ _ _ _ (staged .stage .ensures .1) (search needs) (search needs))
 
 same-length : tie.Need-same-length
 same-length c = search needs

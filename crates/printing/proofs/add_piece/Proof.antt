@@ -1,5 +1,8 @@
 -- `printing::add_piece` meets its contract. Assumes nothing.
-use Rattle.printing.proofs.Behind.{added-one}
+use mathlib.Core.Path.{ap, _∙_}
+use Rattle.elements.specs.declared.Size.{Size}
+use Rattle.printing.specs.Passes.{added}
+use Rattle.printing.proofs.Behind.{put-behind}
 use borrow.Author.Needs.{needs}
 use Rattle.printing.proofs.add_piece.Statement.{statement}
 use Rattle.printing.proofs.add_piece.Tie as tie
@@ -33,9 +36,11 @@ returns c =
     let written = c .before .before .before .before .before .before in
     let placed = written .before .before in
     let a = placed .before .before .before .before .before .args in
-    let z = c .before .before .add-size .ensures in
-    added-one (a .fmt .now) (a .row .now) _ (a .at) (a .k) (a .tally) (a .out .now) (a .ends .now) _ (placed .place-behind .ensures .0) _ _
-    (written .put-piece .ensures) _ (z .0) (z .1) _ (z .2)
+    let size = written .put-piece .ensures in
+    let z = c .before .before .add-size .ensures in (
+      (z .0 ∙ ap (λ (x : Size). added (a .at) x (a .tally)) (size .size), z .1),
+      (put-behind (a .out .now) _ _ _ (size .bytes) (a .tally) (placed .place-behind .ensures .0), z .2),
+    )
 
 pub add-piece-spec : {M : Type 1} → statement M
 add-piece-spec =

@@ -74,7 +74,7 @@ returns-5 c =
     let k = w .before .before .before .before in
     let a = k .before .all-known in
     let e = k .before .before .before .before .before .before .before .before .args in
-    c .checked-of .ensures ∙ walk-checked (e .fmt .now) _ (e .kinds .now) false _ _ _ _ _ (w .walk .ensures)
+    c .checked-of .ensures ∙ walk-checked (e .fmt .now) _ (e .kinds .now) _ false (w .walk .ensures .0)
     ∙ sym (tested (k .before .before .before) ∙ simp (le-leb _ _ (k .before .before .if3 .left), ← a .ensures, not-false (a .result) (k .if4 .left)))
 
 pub check-spec : {M : Type 1} → statement M

@@ -3,11 +3,10 @@ use mathlib.Core.Path.{_≡_, sym, ap, subst, _∙_}
 use lib.ListN.{length}
 use native.Mathlib.Omega.{arith}
 use Rattle.outcomes.specs.Printed.{texts, printedText, endsFrom, ifRoom, printed, written}
-use Rattle.printing.specs.Passes.{Filled}
 use Rattle.outcomes.specs.Demand.{Demanded}
 use Rattle.outcomes.specs.declared.Outcome.{Outcome}
 use Rattle.outcomes.proofs.Accepted.{Fitted, fitted}
-use Rattle.printing.proofs.Behind.{fitted-room}
+use Rattle.printing.proofs.Staged.{staged-text, staged-ends}
 use Rattle.outcomes.proofs.Demand.{demand}
 use borrow.Author.Needs.{needs}
 use Rattle.printing.proofs.print.Statement.{statement}
@@ -78,16 +77,16 @@ returns-2 c =
     let g = sym (told .enum-told .given .1) in
     let k = fits told in
     let v = staged .stage in
-    let filled = subst (λ (o : Outcome). Filled s row (a .out .now) (a .ends .now) o (v .last .1 .1 .0) (v .last .1 .1 .1 .0)) (v .ensures .0 ∙ k .answer)
-    (v .ensures .1) in
-    let w = filled (fitted-room s row (a .out .now) (a .ends .now) _ _ k) in
+    let text = staged-text s row (k .answer) (v .ensures .1) (omega (arith, k .accepts .total, k .bytes)) in
+    let slots =
+    staged-ends s row (k .answer) (v .ensures .1) (omega (arith, k .accepts .pieces, k .slots-enough)) (omega (arith, k .accepts .total, k .wide)) in
     let byte = told .before .before .before .before .before .before .shared-slice-known2 .given in
-    let d = demand s row _ _ (k .accepts) (a .out .now) (a .ends .now) _ _ (w .0) (w .1) (λ i. omega (arith, byte i)) in (
+    let d = demand s row _ _ (k .accepts) (a .out .now) (a .ends .now) _ _ text slots (λ i. omega (arith, byte i)) in (
       answered (told .before .before),
       (
-        w .0 ∙ ap (λ (o : Outcome). written o (a .out .now) (printedText s row)) g,
+        text ∙ ap (λ (o : Outcome). written o (a .out .now) (printedText s row)) g,
         (
-          w .1 ∙ ap (λ (o : Outcome). written o (a .ends .now) (endsFrom 0 (texts s row))) g,
+          slots ∙ ap (λ (o : Outcome). written o (a .ends .now) (endsFrom 0 (texts s row))) g,
           subst (λ (o : Outcome). Demanded s row o (v .last .1 .1 .0) (v .last .1 .1 .1 .0)) g d,
         ),
       ),

@@ -1,34 +1,43 @@
 -- `printing::stage` meets its contract. Assumes nothing.
 use Prim.Native.Nat.{ℕ, _+_, _-_}
-use mathlib.Core.Path.{_≡_, refl, sym, ap, _∙_}
+use mathlib.Core.Path.{_≡_, sym, ap, _∙_}
 use mathlib.Core.Bool.{true}
-use lib.ListN.{take, drop}
+use lib.ListN.{length, take, drop}
 use native.Mathlib.Omega.{arith}
-use borrow.Author.Tests.{lt-ltb, le-ltb, not-true, not-false}
+use borrow.Author.Tests.{lt-ltb, le-ltb, le-leb, lt-leb, not-true, not-false}
+use Rattle.refusals.specs.Limits.{mostFormat}
 use Rattle.writing.specs.Choose.{choose}
 use Rattle.parsing.specs.Listed.{ended}
 use Rattle.rows.specs.Row.{countOf, kindsOf, isRow}
 use Rattle.rows.proofs.Rows.{row-shape, row-read, row-broken}
 use Rattle.outcomes.specs.Printed.{measuredEnd, measured}
-use Rattle.printing.specs.Passes.{Passed}
+use Rattle.printing.specs.Passes.{Passed, stagedTexts, walkTexts}
 use Rattle.outcomes.specs.declared.Outcome.the-variants.{Refused}
 use Rattle.printing.proofs.Outcomes.{walk-measured}
+use Rattle.printing.proofs.Staged.{staged-by, staged-none}
 use borrow.Author.Needs.{needs}
 use Rattle.printing.proofs.stage.Statement.{statement}
 use Rattle.printing.proofs.stage.Tie as tie
 
 returns : tie.Need-returns
-unfolding measured
-returns c = (simp (lt-ltb _ _ (c .if1 .taken)), tt)
+unfolding measured stagedTexts
+returns c =
+    let a = c .before .before .before .before .before .args in
+    (simp (lt-ltb _ _ (c .if1 .taken)), staged-none (a .fmt .now) (a .row .now) _ _ (simp (lt-leb _ _ (c .if1 .taken))))
 
 is-well-formed-requires : tie.Need-is-well-formed-requires
 is-well-formed-requires c κs = search needs
 
 returns-2 : tie.Need-returns-2
-unfolding measured
+unfolding measured stagedTexts
 returns-2 c =
+    let a = c .before .before .before .before .before .before .before .args in
     let u = c .before .is-well-formed in
-    (simp (le-ltb _ _ (c .before .before .if1 .left), ← u .ensures, not-true (u .result) (c .if2 .taken)), tt)
+    let short = c .before .before .if1 .left in
+    let broken = sym (u .ensures) ∙ not-true (u .result) (c .if2 .taken) in (
+      simp (le-ltb _ _ short, broken),
+      staged-none (a .fmt .now) (a .row .now) _ _ (simp (le-leb (length (a .fmt .now)) mostFormat short, broken)),
+    )
 
 read-row-requires : tie.Need-read-row-requires
 read-row-requires c κs = search needs
@@ -44,16 +53,24 @@ abbrev entry : tie.After-read-row → tie.Start
 entry r = r .before .before .before .before .before .before .before .before
 
 tested : (r : tie.After-read-row) → let s = entry r .args .fmt .now in let row = entry r .args .row .now in
-    measured s row ≡ choose (isRow row) (λ _. measuredEnd s row (ended s (kindsOf row))) (λ _. Refused 14 0)
-unfolding measured
+    (measured s row ≡ choose (isRow row) (λ _. measuredEnd s row (ended s (kindsOf row))) (λ _. Refused 14 0))
+    × (stagedTexts s row ≡ walkTexts (isRow row) s row (kindsOf row))
+unfolding measured stagedTexts
 tested r =
+    let s = entry r .args .fmt .now in
     let u = r .before .before .is-well-formed in
-    simp (le-ltb _ _ (r .before .before .before .if1 .left), ← u .ensures, not-false (u .result) (r .before .if2 .left))
+    let short = r .before .before .before .if1 .left in
+    let formed = sym (u .ensures) ∙ not-false (u .result) (r .before .if2 .left) in
+    (simp (le-ltb mostFormat (length s) short, formed), simp (le-leb (length s) mostFormat short, formed))
 
 returns-3 : tie.Need-returns-3
 returns-3 c =
     let r = c .before .before in
-    (sym (tested r ∙ simp (row-broken (entry r .args .row .now) (sym (r .read-row .ensures) ∙ c .enum-told .given .1))), tt)
+    let a = entry r .args in
+    let broken = row-broken (a .row .now) (sym (r .read-row .ensures) ∙ c .enum-told .given .1) in (
+      sym (tested r .0 ∙ simp broken),
+      staged-none (a .fmt .now) (a .row .now) _ _ (tested r .1 ∙ simp broken),
+    )
 
 -- the row that was read
 abbrev reading : tie.After-known-told → tie.After-read-row
@@ -99,9 +116,12 @@ returns-4 c =
     let w = c .before .before .before .before .before in
     let k = w .before .before .before .before in
     let a = entry (reading k) .args in
-    let m = walk-measured (a .fmt .now) (a .row .now) _ true (a .out .now) (a .ends .now) _ _ _ (w .walk .ensures) refl (passed k .kinds) _
-    (c .outcome-of .ensures) in
-    (m .0 ∙ sym (tested (reading k) ∙ simp (read k .0)), m .1)
+    let v = w .walk .ensures in
+    let m = c .outcome-of .ensures ∙ walk-measured (a .fmt .now) (a .row .now) _ _ (v .0) (passed k .kinds) in
+    let texts = ap (walkTexts true (a .fmt .now) (a .row .now)) (passed k .kinds) ∙ sym (tested (reading k) .1 ∙ simp (read k .0)) in (
+      m ∙ sym (tested (reading k) .0 ∙ simp (read k .0)),
+      staged-by (a .fmt .now) (a .row .now) (a .out .now) (a .ends .now) _ texts (v .1 .0) (v .1 .1),
+    )
 
 pub stage-spec : {M : Type 1} → statement M
 stage-spec =

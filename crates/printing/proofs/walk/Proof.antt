@@ -1,6 +1,6 @@
 -- `printing::walk` meets its contract. The loop's invariant: `Laying`, of the pieces so far; its measure is what is left of the format. Assumes nothing.
 use Prim.Native.Nat.{_-_, _<_, max}
-use mathlib.Core.Path.{_≡_, refl, sym, ap, subst, _∙_}
+use mathlib.Core.Path.{_≡_, sym, ap, subst, _∙_}
 use mathlib.Core.Bool.{Bool, true}
 use mathlib.Core.Logic.{⊎-elim}
 use lib.ListN.{length}
@@ -11,8 +11,9 @@ use Rattle.parsing.specs.declared.Step.{Step}
 use Rattle.parsing.specs.declared.Step.the-variants.{Found}
 use Rattle.parsing.proofs.Progress.{advanced}
 use Rattle.printing.specs.Passes.{Walkable, Passed, StopsAt}
-use Rattle.printing.proofs.Reached.{reached-full, reached-refused}
-use Rattle.printing.proofs.Laying.{Laying, piece-ready, laying-as, laying-start, laying-read, laying-printed, walk-finished, walk-stopped}
+use Rattle.printing.proofs.Reached.{reached-full, reached-refused, reached-end}
+use Rattle.printing.proofs.Laying.{Laying, piece-ready, laying-as, laying-start, laying-read, laying-printed}
+use Rattle.printing.proofs.Laying.{walk-answer, walk-bytes, walk-slots}
 use borrow.Author.Needs.{needs}
 use Rattle.printing.proofs.walk.Statement.{statement}
 use Rattle.printing.proofs.walk.Tie as tie
@@ -44,7 +45,10 @@ same-length-2 : tie.Need-same-length-2 Inv-loop μ-loop
 same-length-2 c = search needs
 
 returns : tie.Need-returns Inv-loop μ-loop
-returns c = walk-stopped refl (reached-full (c .before .before .before .loop .inv .reached) (c .before .if1 .taken) (c .if2 .taken))
+returns c =
+    let l = c .before .before .before .loop in
+    let full = reached-full (l .inv .reached) (c .before .if1 .taken) (c .if2 .taken) in
+    (walk-answer (l .inv) (full .1) (sym (full .0)), (walk-bytes (l .inv) (full .1), walk-slots (l .inv) (full .1)))
 
 next-piece-requires : tie.Need-next-piece-requires Inv-loop μ-loop
 next-piece-requires c κs = search needs
@@ -69,8 +73,10 @@ returns-2 c =
     let tried = c .before .before .before .before in
     let l = tried .before .before .before .loop in
     let refused = c .before .enum-told .given .1 in
-    walk-stopped (subst (λ (x : Step). StopsAt x (l .c .at) (c .stopped .result)) refused (c .stopped .ensures))
-    (reached-refused (l .inv .reached) (tried .before .if1 .taken) (tried .if2 .left) (sym (c .before .before .before .next-piece .ensures) ∙ refused))
+    let at = subst (λ (x : Step). StopsAt x (l .c .at) (c .stopped .result)) refused (c .stopped .ensures) in
+    let step = sym (c .before .before .before .next-piece .ensures) ∙ refused in
+    let tail = reached-refused (l .inv .reached) (tried .before .if1 .taken) (tried .if2 .left) step in
+    (walk-answer (l .inv) (tail .1) (at ∙ sym (tail .0)), (walk-bytes (l .inv) (tail .1), walk-slots (l .inv) (tail .1)))
 
 -- a piece is found: the loop around it, and what its tests say
 abbrev around : tie.After-known-told Inv-loop μ-loop → tie.At-loop Inv-loop μ-loop
@@ -113,8 +119,10 @@ loop-again c =
     let l = around k .loop in
     let m = c .larger .ensures ∙ ap (max (l .largest)) (c .before .argument-of .ensures) in
     ⊎-elim
-    (λ w. laying-as (w .10) m (w .8) (w .9)
-    (laying-printed (l .inv) (inside k) (room k) (found k) (passed (around k) (w .0 .taken)) (w .3 .ensures) (search needs) (search needs)))
+    (λ w.
+    let a = w .3 .ensures in
+    laying-as (w .10) m (w .8) (w .9)
+    (laying-printed (l .inv) (inside k) (room k) (found k) (w .0 .taken) (a .0 .0) (a .0 .1) (a .1 .0) (a .1 .1) (search needs) (search needs)))
     (λ w. laying-as (w .3) m (w .1) (w .2) (laying-read (l .inv) (inside k) (room k) (found k) (w .0 .left)))
     (c .before .before .if3 .came)
 
@@ -126,8 +134,9 @@ same-length-6 c = search needs
 
 returns-3 : tie.Need-returns-3 Inv-loop μ-loop
 returns-3 c =
-    let l = c .before .before in
-    walk-finished (l .loop .inv) (passed l) (c .if1 .left)
+    let l = c .before .before .loop in
+    let past = reached-end (l .inv .reached) (c .if1 .left) in
+    (walk-answer (l .inv) (past .1) (sym (past .0)), (walk-bytes (l .inv) (past .1), walk-slots (l .inv) (past .1)))
 
 pub walk-spec : {M : Type 1} → statement M
 walk-spec =
