@@ -1,7 +1,7 @@
 // Runs the lists of vectors in its folder: each record's call is made, and its answer compared with the one that the record states.
 use libc::STDOUT_FILENO;
-use parsing::Checked;
 use outcomes::Outcome;
+use parsing::Checked;
 use records::Found;
 use records::Record;
 use records::Stated;

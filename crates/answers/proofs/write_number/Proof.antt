@@ -1,6 +1,5 @@
 -- `answers::write_number` meets its contract. Assumes nothing.
 use mathlib.Core.Bool.{false}
-use lib.Dec.{lit≤}
 use native.Mathlib.Omega.{arith}
 use Rattle.numerals.specs.Digits.{digits, numeral}
 use Rattle.numerals.proofs.Digits.{length-numeral}
@@ -12,7 +11,7 @@ decimal-len-requires : tie.Need-decimal-len-requires
 decimal-len-requires c κs = search needs
 
 write-digits-requires : tie.Need-write-digits-requires
-write-digits-requires c κs = (lit≤ tt, lit≤ tt, omega (arith, length-numeral false 10 (c .before .before .before .args .x)))
+write-digits-requires c κs = omega (arith, length-numeral false 10 (c .before .before .before .args .x))
 
 same-length : tie.Need-same-length
 same-length c = search needs
