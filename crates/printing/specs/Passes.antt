@@ -1,5 +1,5 @@
--- What one pass over the pieces adds up and leaves, and what its steps do: for the contracts of `walk` and of the functions that it is made of. Nothing
--- in the promises of checking, measuring and printing speaks of these.
+-- What one pass over the pieces adds up and leaves, and what its steps do: for the contracts of `stage`, `walk` and the functions that these are made
+-- of. Nothing in the promises of checking, measuring and printing speaks of these.
 use Prim.Native.Nat.{ℕ, _+_, _-_, _*_, _%_, _^_, _≤_, min}
 use mathlib.Core.Path.{_≡_}
 use mathlib.Core.Bool.{Bool, true, false, _&&_}
