@@ -1,30 +1,19 @@
 -- The texts of a format's pieces, and where nothing stops them. Assumes nothing.
 use mathlib.Core.Path.{_≡_, refl, ap}
-use mathlib.Core.List.{List, [], _∷_, _++_}
+use mathlib.Core.List.{List, [], _∷_}
 use mathlib.Core.Option.{Option, none, some}
 use Prim.Native.Nat.{ℕ, zero, suc, _<_}
 use native.Mathlib.Omega.{arith}
-use lib.ListN.{length, getD, take}
+use lib.ListN.{length, getD}
 use Rattle.parsing.specs.Listed.{Placed}
 use Rattle.pieces.specs.PieceTexts.{pieceText, pieceStop}
 use Rattle.outcomes.specs.Printed.{textsOf, stopAt, firstStop}
 
 module _ (s row : List ℕ) where
-  pub texts-one : (ps : List Placed) (p : Placed) → textsOf s row (ps ++ (p ∷ [])) ≡ textsOf s row ps ++ (pieceText s row (p .piece) ∷ [])
-  unfolding textsOf
-  texts-one [] p = refl
-  texts-one (q ∷ ps) p = ap (λ (ts : List (List ℕ)). pieceText s row (q .piece) ∷ ts) (texts-one ps p)
-
   pub texts-length : (ps : List Placed) → length (textsOf s row ps) ≡ length ps
   unfolding textsOf
   texts-length [] = refl
   texts-length (p ∷ ps) = ap suc (texts-length ps)
-
-  pub texts-take : (k : ℕ) (ps : List Placed) → textsOf s row (take k ps) ≡ take k (textsOf s row ps)
-  unfolding textsOf
-  texts-take zero ps = refl
-  texts-take (suc k) [] = refl
-  texts-take (suc k) (p ∷ ps) = ap (λ (ts : List (List ℕ)). pieceText s row (p .piece) ∷ ts) (texts-take k ps)
 
   pub texts-nth : (ps : List Placed) (i : ℕ) (d : Placed) → i < length ps → getD (textsOf s row ps) i [] ≡ pieceText s row (getD ps i d .piece)
   unfolding textsOf
@@ -32,7 +21,7 @@ module _ (s row : List ℕ) where
   texts-nth (p ∷ ps) zero d h = refl
   texts-nth (p ∷ ps) (suc i) d h = texts-nth ps i d (omega arith)
 
-  -- nothing stops a piece, nor the first k, where nothing stops any
+  -- nothing stops a piece where nothing stops any
   pub no-stop : (ps : List Placed) (i : ℕ) (d : Placed) → firstStop s row ps ≡ none → i < length ps → pieceStop s row (getD ps i d .piece) ≡ none
   unfolding firstStop
   no-stop [] i d e h = absurd (omega arith)
@@ -44,14 +33,3 @@ module _ (s row : List ℕ) where
       go none q ih zero h e = q
       go none q ih (suc i) h e = ih i e (omega arith)
       go (some n) q ih i h e = absurd (let z : _≡_ {A = ℕ} 0 1 = cc in omega arith)
-
-  pub stop-part : (k : ℕ) (ps : List Placed) → firstStop s row ps ≡ none → firstStop s row (take k ps) ≡ none
-  unfolding firstStop
-  stop-part zero ps e = refl
-  stop-part (suc k) [] e = refl
-  stop-part (suc k) (p ∷ ps) e = go (pieceStop s row (p .piece)) e (stop-part k ps)
-    where
-      go : (x : Option ℕ) → stopAt x (p .from) (firstStop s row ps) ≡ none → (firstStop s row ps ≡ none → firstStop s row (take k ps) ≡ none)
-          → stopAt x (p .from) (firstStop s row (take k ps)) ≡ none
-      go none e ih = ih e
-      go (some n) e ih = e
