@@ -1,5 +1,5 @@
 -- 01, "Cases": "These rows are a table of the definitions, under a lone theorem".
-use Prim.Native.Nat.{ℕ, _-_, _^_}
+use Prim.Native.Nat.{ℕ, _-_, _*_, _^_}
 use Prim.Native.Char.{code}
 use Prim.Native.String.{String, [] as empty, _∷_ as _then_}
 use mathlib.Core.Bool.{Bool, true, false, _&&_}
@@ -53,6 +53,28 @@ cases =
     ∷ record { format = "%.1s"; kind = 7; value = 2 ^ 33; area = "é"; text = "" }
     ∷ record { format = "%3c"; kind = 3; value = 233; area = ""; text = " é" }
     ∷ record { format = "%.2d"; kind = 131; value = 0; area = ""; text = "nu" }
+    ∷ []
+
+-- Rows of ours, of what no law reads back: marks, capitals, words, characters and texts.
+abbrev pub ours : List Case
+ours =
+    record { format = "%+d"; kind = 3; value = 5; area = ""; text = "+5" }
+    ∷ record { format = "% d"; kind = 3; value = 5; area = ""; text = " 5" }
+    ∷ record { format = "%X"; kind = 1; value = minus 1; area = ""; text = "FF" }
+    ∷ record { format = "%#x"; kind = 1; value = minus 1; area = ""; text = "0xff" }
+    ∷ record { format = "%A"; kind = 5; value = 0x3ff0_0000_0000_0000; area = ""; text = "0X1.0P0" }
+    ∷ record { format = "%+a"; kind = 5; value = 0x7ff0_0000_0000_0000; area = ""; text = "+Infinity" }
+    ∷ record { format = "%a"; kind = 5; value = 0x7ff8_0000_0000_0000; area = ""; text = "NaN" }
+    ∷ record { format = "%s"; kind = 7; value = 5 * 2 ^ 32; area = "north"; text = "north" }
+    ∷ record { format = "%-7S"; kind = 7; value = 5 * 2 ^ 32; area = "north"; text = "NORTH  " }
+    ∷ record { format = "%s"; kind = 3; value = minus 42; area = ""; text = "-42" }
+    ∷ record { format = "%S"; kind = 131; value = 0; area = ""; text = "NULL" }
+    ∷ record { format = "%b"; kind = 6; value = 1; area = ""; text = "true" }
+    ∷ record { format = "%B"; kind = 134; value = 0; area = ""; text = "FALSE" }
+    ∷ record { format = "%c"; kind = 3; value = 97; area = ""; text = "a" }
+    ∷ record { format = "%C"; kind = 3; value = 97; area = ""; text = "A" }
+    ∷ record { format = "gate 7"; kind = 3; value = 5; area = ""; text = "gate 7" }
+    ∷ record { format = "%%"; kind = 3; value = 5; area = ""; text = "%" }
     ∷ []
 
 -- That a format of one piece prints, and what.

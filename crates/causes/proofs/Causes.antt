@@ -13,8 +13,7 @@ use Rattle.refusals.specs.Limits.{mostFormat, mostKinds, largestEnd}
 use Rattle.writing.proofs.Choose.{both}
 use Rattle.utf8.specs.Utf8.{wellFormed}
 use Rattle.parsing.specs.Check.{allKnown, largestOf, checkedEnd, checked}
-use Rattle.parsing.specs.Listed.{placed, ended}
-use Rattle.parsing.specs.declared.Checked.{Checked}
+use Rattle.parsing.specs.Listed.{placed}
 use Rattle.parsing.specs.declared.Checked.the-variants as C
 use Rattle.parsing.specs.declared.Ended.{Ended}
 use Rattle.grammar.specs.Parts.{Part, largestIn}
@@ -29,11 +28,12 @@ use Rattle.grammar.proofs.Readings.{Ends, made, stops, ends, read-whole}
 use Rattle.rows.specs.Row.{kindsOf, isRow}
 use Rattle.outcomes.specs.Printed.{printedText, measured, ifRoom, printed}
 use Rattle.outcomes.specs.declared.Outcome.{Outcome}
-use Rattle.outcomes.specs.declared.Outcome.the-variants.{Accepted, Refused}
-use Rattle.causes.specs.Calls.{Call, checking, measuring, printing, formatIn, kindsIn, OfRow, measured-row, printed-row, Refusal, ofChecked, ofOutcome, refusal}
-use Rattle.causes.specs.Causes.{BadInput, Begins, Unprinted, AllPrinted, FirstUnprinted, here, earlier, NoRoom, Cause}
+use Rattle.outcomes.specs.declared.Outcome.the-variants.{Accepted}
+use Rattle.causes.specs.Calls.{Call, checking, measuring, printing, formatIn, kindsIn, OfRow, measured-row, printed-row}
+use Rattle.causes.specs.Calls.{Refusal, ofChecked, ofOutcome, refusal}
+use Rattle.causes.specs.Causes.{BadInput, Begins, AllPrinted, FirstUnprinted, here, earlier, NoRoom, Cause}
 use Rattle.causes.specs.Causes as K
-use Rattle.causes.proofs.Inputs.{bad-kinds, kinds-bad, checked-kinds, measured-bad, printed-bad}
+use Rattle.causes.proofs.Inputs.{kinds-good, bad-kinds, kinds-bad, checked-kinds, row-good, measured-bad, printed-bad}
 use Rattle.causes.proofs.Refused.{read-checked, accepted-measured, refuses}
 use Rattle.causes.proofs.Stops.{Told, fine, found, told}
 
@@ -53,8 +53,8 @@ by-format call f = elim (decLt mostFormat (length (formatIn call))) [
     go true q h = f h q
     go false q h = caused (K.malformed h q)
 
--- What checking accepts: its pieces are the parts, and the largest argument is theirs.
-pub checked-whole : {s ks : List ℕ} {parts : List Part} → length s ≤ mostFormat → wellFormed s ≡ true
+-- what checking accepts
+checked-whole : {s ks : List ℕ} {parts : List Part} → length s ≤ mostFormat → wellFormed s ≡ true
     → (leb (length ks) mostKinds && allKnown ks) ≡ true → Whole s ks parts → checked s ks ≡ C.Accepted (length parts) (largestIn parts)
 checked-whole {s} {ks} {parts} h f k w =
     let known = checked-kinds ks (both (leb (length ks) mostKinds) (allKnown ks) k .1) in
@@ -178,6 +178,32 @@ accepted-exactly call = (without, only)
         go : Judged call → refusal call ≡ none
         go (accepted q) = q
         go (caused {n = n} {p = p} x) = absurd (h n p x)
+
+-- What an accepted call answers. A format is checked with as many pieces as it has parts, and their largest argument;
+pub checked-parts : {s ks : List ℕ} {parts : List Part} → Begins (checking s ks) → Whole s ks parts → checked s ks ≡ C.Accepted (length parts) (largestIn parts)
+checked-parts {s} {ks} b w = checked-whole (b .short) (b .formed) (kinds-good s ks (b .input)) w
+
+-- a row is measured, and printed where it has room, with the length of its text and as many pieces.
+pub measured-parts : {s row : List ℕ} {parts : List Part} → Begins (measuring s row) → Whole s (kindsOf row) parts → AllPrinted row parts
+    → measured s row ≡ Accepted (length (printedText s row)) (length parts)
+measured-parts {s} {row} b w x = accepted-measured s row (b .short) (b .formed) (row-good measured-row (b .input)) w x
+
+pub printed-parts : {s row : List ℕ} (room slots : ℕ) {parts : List Part} → Begins (printing s row room slots) → Whole s (kindsOf row) parts
+    → AllPrinted row parts → (NoRoom s row room slots (length parts) → ⊥)
+    → printed s row room slots ≡ Accepted (length (printedText s row)) (length parts)
+unfolding printed
+printed-parts {s} {row} room slots {parts} b w x h =
+    ap (ifRoom room slots) (accepted-measured s row (b .short) (b .formed) (row-good printed-row (b .input)) w x)
+    ∙ simp (within room K.longer-than-output, within largestEnd K.longer-than-ends-hold, few)
+  where
+    n : ℕ
+    n = length (printedText s row)
+
+    within : (most : ℕ) → (most < n → NoRoom s row room slots (length parts)) → leb n most ≡ true
+    within most f = elim (decLt most n) [ yes l ↦ absurd (h (f l)) | no l ↦ le-leb n most (omega arith) ]
+
+    few : leb (length parts) slots ≡ true
+    few = elim (decLt slots (length parts)) [ yes l ↦ absurd (h (K.more-pieces l)) | no l ↦ le-leb (length parts) slots (omega arith) ]
 
 -- The numbers of refusals are 1 to 17.
 fault-number : {ks : List ℕ} {before : List Part} {r : List ℕ} {n : ℕ} → Fault ks before r n → (1 ≤ n) × (n ≤ 17)

@@ -2,19 +2,19 @@
 use mathlib.Core.Path.{_≡_, refl, sym, ap, subst, _∙_}
 use mathlib.Core.Bool.{Bool, true, false, _&&_, _||_}
 use mathlib.Core.List.{List, [], _∷_}
-use Prim.Native.Nat.{ℕ, zero, suc, _-_, _%_, _≤_, _<_}
+use Prim.Native.Nat.{ℕ, zero, suc, _-_, _%_, _<_}
 use native.Mathlib.Decide.{decLt}
 use native.Mathlib.Omega.{arith}
-use lib.Dec.{eqb, leb, lit≤}
+use lib.Dec.{eqb, leb}
 use lib.ListN.{length, getD}
-use borrow.Author.Tests.{eqb-true, eq-eqb, leb-true, le-leb, lt-leb}
+use borrow.Author.Tests.{eqb-true, eq-eqb, le-leb, lt-leb}
 use Rattle.refusals.specs.Limits.{mostKinds}
 use Rattle.writing.specs.Text.{has}
 use Rattle.writing.proofs.Choose.{both}
 use Rattle.conversions.specs.Kinds.{kindOf}
 use Rattle.parsing.specs.Check.{isKnown, allKnown}
 use Rattle.grammar.specs.Runs.{all}
-use Rattle.grammar.specs.Elements.{kinds, kindAt}
+use Rattle.grammar.specs.Elements.{kinds}
 use Rattle.grammar.proofs.Letters.{never, all-has, known-kind}
 use Rattle.grammar.proofs.Steps.{KindsKnown}
 use Rattle.rows.specs.Row.{isRow}

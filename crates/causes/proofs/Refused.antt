@@ -1,12 +1,12 @@
 -- A call is refused where a cause holds, with the cause's number and place. Assumes nothing.
-use mathlib.Core.Path.{_≡_, refl, sym, ap, subst, _∙_}
+use mathlib.Core.Path.{_≡_, refl, sym, ap, _∙_}
 use mathlib.Core.Bool.{Bool, true, false, _&&_}
 use mathlib.Core.List.{List, [], _∷_}
 use mathlib.Core.Option.{Option, none, some}
 use Prim.Native.Nat.{ℕ, _-_, _%_, _≤_, _<_}
 use native.Mathlib.Omega.{arith}
-use lib.Dec.{leb, ltb}
-use lib.ListN.{length, getD}
+use lib.Dec.{leb}
+use lib.ListN.{length}
 use borrow.Author.Tests.{lt-ltb, le-ltb, lt-leb}
 use Rattle.refusals.specs.Limits.{mostFormat, mostKinds, largestEnd}
 use Rattle.writing.specs.Text.{has}
@@ -16,21 +16,19 @@ use Rattle.parsing.specs.Check.{allKnown, checkedEnd, checked}
 use Rattle.parsing.specs.Listed.{placed, ended}
 use Rattle.parsing.specs.declared.Checked.the-variants as C
 use Rattle.parsing.specs.declared.Ended.{Ended}
-use Rattle.parsing.specs.declared.Ended.the-variants.{Finished, Stopped}
 use Rattle.grammar.specs.Parts.{Written, Part, text, percent, newline, element}
-use Rattle.grammar.specs.Elements.{kinds, kindAt, Reads}
+use Rattle.grammar.specs.Elements.{kinds, Reads}
 use Rattle.grammar.specs.Readings.{Whole, StopsReading}
-use Rattle.grammar.proofs.Arguments.{OfElement, Each, arguments-in}
+use Rattle.grammar.proofs.Arguments.{Each, arguments-in}
 use Rattle.grammar.proofs.Listed.{lists-length}
 use Rattle.grammar.proofs.Readings.{Read, read-whole, stopped-by}
-use Rattle.rows.specs.Row.{countOf, kindsOf, kindByteOf, isRow}
+use Rattle.rows.specs.Row.{countOf, kindsOf, isRow}
 use Rattle.rows.proofs.Rows.{kinds-length, kind-byte}
 use Rattle.outcomes.specs.Printed.{printedText, Stop, firstStop, unlessStopped, measuredEnd, measured, ifRoom, printed}
-use Rattle.outcomes.specs.declared.Outcome.{Outcome}
 use Rattle.outcomes.specs.declared.Outcome.the-variants.{Accepted, Refused}
 use Rattle.outcomes.proofs.Letters.{row-kinds}
-use Rattle.causes.specs.Calls.{Call, checking, measuring, printing, formatIn, kindsIn, OfRow, measured-row, printed-row, Refusal, ofChecked, ofOutcome, refusal}
-use Rattle.causes.specs.Causes.{Begins, AllPrinted, FirstUnprinted, NoRoom, longer-than-output, longer-than-ends-hold, more-pieces, Cause}
+use Rattle.causes.specs.Calls.{Call, checking, measuring, printing, measured-row, printed-row, Refusal, ofChecked, ofOutcome, refusal}
+use Rattle.causes.specs.Causes.{AllPrinted, FirstUnprinted, NoRoom, longer-than-output, longer-than-ends-hold, more-pieces, Cause}
 use Rattle.causes.specs.Causes as K
 use Rattle.causes.proofs.Inputs.{kinds-good, kinds-bad, checked-kinds, row-good, measured-bad, printed-bad}
 use Rattle.causes.proofs.Stops.{HasKind, none-stops, first-stops}

@@ -3,7 +3,7 @@
 use mathlib.Core.Path.{_≡_, refl, sym, ap, subst, _∙_}
 use mathlib.Core.Bool.{Bool, true, false, _&&_}
 use mathlib.Core.List.{List, [], _∷_}
-use Prim.Native.Nat.{ℕ, zero, suc, _+_, _-_, _%_, _≤_, _<_}
+use Prim.Native.Nat.{ℕ, suc, _+_, _-_, _%_, _≤_, _<_}
 use native.Mathlib.Decide.{decLt}
 use native.Mathlib.Omega.{arith}
 use lib.Dec.{leb}
@@ -13,7 +13,7 @@ use Rattle.refusals.specs.Limits.{mostFormat, mostKinds}
 use Rattle.utf8.specs.Utf8.{wellFormed}
 use Rattle.conversions.specs.Kinds.{kindOf}
 use Rattle.parsing.specs.Check.{isKnown, allKnown, checkedEnd, checked}
-use Rattle.parsing.specs.Listed.{Placed, placed, ended}
+use Rattle.parsing.specs.Listed.{placed, ended}
 use Rattle.parsing.specs.declared.Checked.{Checked}
 use Rattle.parsing.specs.declared.Checked.the-variants as C
 use Rattle.parsing.specs.declared.Ended.{Ended}
@@ -21,9 +21,8 @@ use Rattle.parsing.specs.declared.Ended.the-variants.{Finished, Stopped}
 use Rattle.grammar.proofs.Marks.{unmarked, as-many, unmarked-placed, unmarked-ended}
 use Rattle.rows.specs.Row.{kindsOf, isRow}
 use Rattle.rows.proofs.Rows.{row-shape, kinds-length}
-use Rattle.outcomes.specs.Printed.{measuredEnd, measured}
-use Rattle.outcomes.specs.declared.Outcome.{Outcome}
-use Rattle.outcomes.specs.declared.Outcome.the-variants.{Refused}
+use Rattle.outcomes.specs.Printed.{printedText, firstStop, unlessStopped, measuredEnd, measured}
+use Rattle.outcomes.specs.declared.Outcome.the-variants.{Accepted, Refused}
 use Rattle.outcomes.proofs.Letters.{row-kinds}
 use Rattle.causes.proofs.Inputs.{kind-known}
 use Rattle.causes.proofs.Refused.{long-checked, malformed-checked, read-checked, long-measured, malformed-measured, read-measured}
@@ -49,7 +48,9 @@ module _ (s row : List ℕ) (kept : isRow row ≡ true) where
 
   -- What a check of the kinds says of the row.
   abbrev Says : Checked → Type 0
-  Says (C.Accepted k m) = (ended s ks ≡ Finished) × (length (placed s ks) ≡ k)
+  Says (C.Accepted k m) =
+      (ended s ks ≡ Finished) × (length (placed s ks) ≡ k)
+      × (measured s row ≡ unlessStopped (firstStop s row (placed s ks)) (Accepted (length (printedText s row)) k))
   Says (C.Refused n p) = measured s row ≡ Refused n p
 
   says : Says (checked s (unmarked ks))
@@ -60,7 +61,7 @@ module _ (s row : List ℕ) (kept : isRow row ≡ true) where
   ]
     where
       by-end : length s ≤ mostFormat → wellFormed s ≡ true → (x : Ended) → ended s ks ≡ x → Says (checkedEnd x (placed s ks))
-      by-end h f Finished q = (q, refl)
+      by-end h f Finished q = (q, refl, read-measured s row h f kept ∙ ap (measuredEnd s row) q)
       by-end h f (Stopped n p) q = read-measured s row h f kept ∙ ap (measuredEnd s row) q
 
       by-form : (t : Bool) → wellFormed s ≡ t → length s ≤ mostFormat → Says (checked s (unmarked ks))
@@ -74,5 +75,8 @@ module _ (s row : List ℕ) (kept : isRow row ≡ true) where
   pub refused-so : (n p : ℕ) → checked s (unmarked ks) ≡ C.Refused n p → measured s row ≡ Refused n p
   refused-so n p e = subst Says e says
 
-  pub accepted-so : (k m : ℕ) → checked s (unmarked ks) ≡ C.Accepted k m → (ended s ks ≡ Finished) × (length (placed s ks) ≡ k)
+  -- accepted with so many pieces, unless one of them is not printed
+  pub accepted-so : (k m : ℕ) → checked s (unmarked ks) ≡ C.Accepted k m
+      → (ended s ks ≡ Finished) × (length (placed s ks) ≡ k)
+      × (measured s row ≡ unlessStopped (firstStop s row (placed s ks)) (Accepted (length (printedText s row)) k))
   accepted-so k m e = subst Says e says

@@ -1,10 +1,9 @@
 -- The first piece that is not printed is the first element that is not printed, from left to right. Assumes nothing.
-use mathlib.Core.Path.{_≡_, refl, sym, ap, subst, _∙_}
-use mathlib.Core.Bool.{Bool, true, false, not, _&&_}
+use mathlib.Core.Path.{_≡_, refl, sym, ap, _∙_}
+use mathlib.Core.Bool.{Bool, true, false}
 use mathlib.Core.List.{List, [], _∷_, _++_}
 use mathlib.Core.Option.{Option, none, some}
 use Prim.Native.Nat.{ℕ, _%_}
-use native.Mathlib.Omega.{arith}
 use lib.ListN.{length}
 use Rattle.writing.specs.Text.{ascii, has}
 use Rattle.writing.proofs.Choose.{both}
@@ -14,9 +13,9 @@ use Rattle.conversions.specs.declared.Form.{Form}
 use Rattle.specifiers.specs.declared.Element.{Element}
 use Rattle.parsing.specs.Listed.{Placed}
 use Rattle.parsing.specs.declared.Piece.{Piece}
-use Rattle.parsing.specs.declared.Piece.the-variants.{Fixed, Byte, Element as AnElement}
+use Rattle.parsing.specs.declared.Piece.the-variants.{Element as AnElement}
 use Rattle.grammar.specs.Runs.{begins}
-use Rattle.grammar.specs.Parts.{Written, Part, text, percent, newline, element, allBytes}
+use Rattle.grammar.specs.Parts.{Written, Part, text, percent, newline, element}
 use Rattle.grammar.specs.Elements.{kinds}
 use Rattle.grammar.specs.Pieces.{ElementIs, PieceIs, Lists}
 use Rattle.grammar.specs.Pieces as Q
@@ -26,8 +25,8 @@ use Rattle.rows.specs.Row.{namedText, kindByteOf, valueOf, isNull}
 use Rattle.elements.specs.Texts.{elementText, stopOf}
 use Rattle.pieces.specs.PieceTexts.{shownPiece, pieceStop}
 use Rattle.outcomes.specs.Printed.{Stop, stopAt, firstStop}
-use Rattle.causes.specs.Causes.{printsBytes, isScalarValue, Unprinted, not-printed, no-scalar, Printed, AllPrinted, FirstUnprinted, here, earlier}
-use Rattle.causes.proofs.Unprinted.{isPrinted, isCharacter, Shows, shows, stop, stops-15, stops-16, goes-on}
+use Rattle.causes.specs.Causes.{printsBytes, isScalarValue, Unprinted, not-printed, no-scalar, PartPrinted, AllPrinted, FirstUnprinted, here, earlier}
+use Rattle.causes.proofs.Unprinted.{isCharacter, Shows, shows, stop, stops-15, stops-16, goes-on}
 
 -- An element of a row whose kind is known.
 abbrev pub HasKind : List ℕ → Written → Type 0
@@ -81,14 +80,14 @@ pub data Told (P : Type 0) (Q : ℕ → ℕ → Type 0) : Type 0 where
   found : {n p : ℕ} → Q n p → Told P Q
 
 module _ (row : List ℕ) where
-  told-element : (w : Written) → Told (Printed row (element w)) (λ n _. Unprinted row w n)
+  told-element : (w : Written) → Told (PartPrinted row (element w)) (λ n _. Unprinted row w n)
   told-element w =
       go (printsBytes (w .letter) (kindByteOf row (w .argument) % 128)) (begins (has (ascii "cC")) (w .letter)) (isNull (kindByteOf row (w .argument)))
       (isScalarValue (intOf 64 (valueOf row (w .argument)))) refl refl refl refl
     where
       go : (a b c d : Bool) → printsBytes (w .letter) (kindByteOf row (w .argument) % 128) ≡ a → begins (has (ascii "cC")) (w .letter) ≡ b
           → isNull (kindByteOf row (w .argument)) ≡ c → isScalarValue (intOf 64 (valueOf row (w .argument))) ≡ d
-          → Told (Printed row (element w)) (λ n _. Unprinted row w n)
+          → Told (PartPrinted row (element w)) (λ n _. Unprinted row w n)
       go false b c d p q r z = found {p = 0} (not-printed p)
       go true true false false p q r z = found {p = 0} (no-scalar p q r z)
       go true false c d p q r z = fine (λ n u. against n u)
@@ -111,7 +110,7 @@ module _ (row : List ℕ) where
   told [] = fine tt
   told (p ∷ before) = go p (told before)
     where
-      judged : (w : Written) → AllPrinted row before → Told (Printed row (element w)) (λ n _. Unprinted row w n)
+      judged : (w : Written) → AllPrinted row before → Told (PartPrinted row (element w)) (λ n _. Unprinted row w n)
           → Told (AllPrinted row (element w ∷ before)) (FirstUnprinted row (element w ∷ before))
       judged w h (fine x) = fine (x, h)
       judged w h (found x) = found (here x h)
@@ -141,7 +140,7 @@ module _ (s row : List ℕ) where
       go none e = e
       go (some n) e = refl
 
-  piece-goes : {at : ℕ} {x : Piece} {p : Part} → PieceIs at x p → OfElement (HasKind row) p → Printed row p → pieceStop s row x ≡ none
+  piece-goes : {at : ℕ} {x : Piece} {p : Part} → PieceIs at x p → OfElement (HasKind row) p → PartPrinted row p → pieceStop s row x ≡ none
   unfolding shownPiece
   piece-goes (Q.is-text e f) known h = refl
   piece-goes (Q.is-percent e f) known h = refl

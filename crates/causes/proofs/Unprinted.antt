@@ -1,31 +1,29 @@
 -- Which elements of a row are not printed, by their letters, and which is the first. Assumes nothing.
 use mathlib.Core.Path.{_≡_, refl, sym, ap, subst, _∙_}
-use mathlib.Core.Bool.{Bool, true, false, not, _&&_, _||_}
-use mathlib.Core.List.{List, [], _∷_, _++_}
+use mathlib.Core.Bool.{Bool, true, false, _&&_, _||_}
+use mathlib.Core.List.{List, [], _∷_}
 use mathlib.Core.Option.{Option, none, some}
-use Prim.Native.Nat.{ℕ, _%_, _≤_, _<_}
+use Prim.Native.Nat.{ℕ}
 use Prim.Native.Char.{code}
 use native.Mathlib.Decide.{decLt}
 use native.Mathlib.Omega.{arith}
 use lib.Dec.{eqb, leb, ltb}
 use lib.IntN.{ℤ, pos, negsuc, natAbs}
-use lib.ListN.{length}
 use borrow.Author.Tests.{eqb-true, le-leb, lt-leb, lt-ltb, le-ltb}
 use Rattle.writing.specs.Choose.{choose}
 use Rattle.writing.specs.Text.{ascii, has}
 use Rattle.writing.proofs.Choose.{both}
 use Rattle.numerals.specs.Integers.{intOf, isNegative}
 use Rattle.conversions.specs.Letters.{timeOf, smallOf, capitalOf}
-use Rattle.conversions.specs.Kinds.{integerForm, formOf, printsAs}
+use Rattle.conversions.specs.Kinds.{integerForm, formOf}
 use Rattle.conversions.specs.declared.ConversionType.{ConversionType}
 use Rattle.conversions.specs.declared.ConversionType.the-variants as C
-use Rattle.conversions.specs.declared.IntegerForm.{IntegerForm}
 use Rattle.conversions.specs.declared.IntegerForm.the-variants.{Numeral, Scalar, Digits}
 use Rattle.conversions.specs.declared.Form.{Form}
 use Rattle.conversions.specs.declared.Form.the-variants as F
 use Rattle.conversions.specs.declared.TimeLetter.{TimeLetter}
 use Rattle.conversions.specs.declared.TimeLetter.the-variants.{Component, NoComponent}
-use Rattle.specifiers.specs.Specifier.{oneLetter, timeLetter, secondLetter, letterFrom}
+use Rattle.specifiers.specs.Specifier.{timeLetter, secondLetter, letterFrom}
 use Rattle.specifiers.specs.declared.Element.{Element}
 use Rattle.specifiers.specs.declared.LetterTaken.{LetterTaken}
 use Rattle.specifiers.specs.declared.LetterTaken.the-variants as L
@@ -34,8 +32,8 @@ use Rattle.grammar.specs.Elements.{letters, kinds, inTable}
 use Rattle.grammar.proofs.Total.{has-none}
 use Rattle.grammar.proofs.Letters.{never, all-has, same, same-is, one, not-time, either-time, second, no-letter-is}
 use Rattle.strings.specs.Scalars.{isScalar}
-use Rattle.elements.specs.Texts.{Shown, Text, Stops, charText, integerText, valueText, elementText, stopOf}
-use Rattle.causes.specs.Causes.{prints, printsBytes, isScalarValue}
+use Rattle.elements.specs.Texts.{Text, charText, valueText, stopOf}
+use Rattle.causes.specs.Causes.{printedFor, printsBytes, isScalarValue}
 
 -- What is printed, and what is a character, by the form.
 abbrev pub isPrinted : Form → Bool
@@ -61,8 +59,8 @@ formRead (L.Refused n) k = F.NotPrinted
 
 abbrev agrees : ℕ → ℕ → Bool
 agrees b k =
-    same (inTable prints b k) (isPrinted (formRead (one b) k))
-    && same (has (ascii "cC") b && inTable prints b k) (isCharacter (formRead (one b) k))
+    same (inTable printedFor b k) (isPrinted (formRead (one b) k))
+    && same (has (ascii "cC") b && inTable printedFor b k) (isCharacter (formRead (one b) k))
 
 all-agree : all (λ b. all (agrees b) kinds) letters ≡ true
 unfolding all has one smallOf capitalOf integerForm
@@ -79,21 +77,21 @@ unfolding one
 plain-shows b more c u n k h e i =
     let t = not-time b h in
     let r : one b ≡ L.Read c u n = sym (simp (t .0, t .1)) ∙ e in
-    let a = both (same (inTable prints b k) (isPrinted (formRead (one b) k)))
-    (same (has (ascii "cC") b && inTable prints b k) (isCharacter (formRead (one b) k)))
+    let a = both (same (inTable printedFor b k) (isPrinted (formRead (one b) k)))
+    (same (has (ascii "cC") b && inTable printedFor b k) (isCharacter (formRead (one b) k)))
     (all-has (agrees b) kinds k (all-has (λ b. all (agrees b) kinds) letters b all-agree h) i) in
     record {
-      printed = same-is (inTable prints b k) _ (a .0) ∙ ap (λ (x : LetterTaken). isPrinted (formRead x k)) r;
-      character = same-is (has (ascii "cC") b && inTable prints b k) _ (a .1) ∙ ap (λ (x : LetterTaken). isCharacter (formRead x k)) r;
+      printed = same-is (inTable printedFor b k) _ (a .0) ∙ ap (λ (x : LetterTaken). isPrinted (formRead x k)) r;
+      character = same-is (has (ascii "cC") b && inTable printedFor b k) _ (a .1) ∙ ap (λ (x : LetterTaken). isCharacter (formRead x k)) r;
     }
 
 -- t and T are printed for no kind
-time-none : (t k : ℕ) → has (ascii "tT") t ≡ true → (inTable prints t k ≡ false) × (has (ascii "cC") t ≡ false)
+time-none : (t k : ℕ) → has (ascii "tT") t ≡ true → (inTable printedFor t k ≡ false) × (has (ascii "cC") t ≡ false)
 unfolding has
 time-none t k h = go (eqb t (code "t")) (eqb t (code "T")) refl refl (either-time t h)
   where
     None : ℕ → Type 0
-    None x = (inTable prints x k ≡ false) × (has (ascii "cC") x ≡ false)
+    None x = (inTable printedFor x k ≡ false) × (has (ascii "cC") x ≡ false)
 
     go : (a b : Bool) → eqb t (code "t") ≡ a → eqb t (code "T") ≡ b → (a || b) ≡ true → None t
     go true b p q e = subst None (sym (eqb-true t (code "t") p)) (refl, refl)

@@ -11,7 +11,7 @@ use Rattle.writing.specs.Text.{ascii, has}
 use Rattle.numerals.specs.Integers.{intOf}
 use Rattle.utf8.specs.Utf8.{wellFormed}
 use Rattle.grammar.specs.Runs.{begins}
-use Rattle.grammar.specs.Parts.{Written, Part, text, percent, newline, element, allBytes}
+use Rattle.grammar.specs.Parts.{Written, Part, text, percent, newline, element, bytesBefore}
 use Rattle.grammar.specs.Elements.{kinds, inTable}
 use Rattle.grammar.specs.Readings.{Whole, StopsReading}
 use Rattle.rows.specs.Row.{kindByteOf, valueOf, isNull, isRow}
@@ -32,13 +32,13 @@ pub record Begins (call : Call) : Type 0 where
 
 -- Which letters print which kinds: integers by %d, %x, %o, %c and %s; "the only letters printed for kind 5" are those of %a; "%b of Boolean and %s of
 -- text are the only letters printed for kinds 6 and 7 (capitals too)".
-abbrev pub prints : List (List ℕ × List ℕ)
-prints =
+abbrev pub printedFor : List (List ℕ × List ℕ)
+printedFor =
     (ascii "dxXocCsS", 1 ∷ 2 ∷ 3 ∷ 4 ∷ []) ∷ (ascii "aA", 5 ∷ []) ∷ (ascii "bB", 6 ∷ []) ∷ (ascii "sS", 7 ∷ []) ∷ []
 
 abbrev pub printsBytes : List ℕ → ℕ → Bool
 printsBytes [] k = false
-printsBytes (l ∷ more) k = inTable prints l k
+printsBytes (l ∷ more) k = inTable printedFor l k
 
 -- A Unicode scalar value: 0 to D7FF or E000 to 10FFFF, hexadecimal.
 abbrev pub isScalarValue : ℤ → Bool
@@ -52,19 +52,19 @@ pub data Unprinted (row : List ℕ) (w : Written) : ℕ → Type 0 where
       → isNull (kindByteOf row (w .argument)) ≡ false → isScalarValue (intOf 64 (valueOf row (w .argument))) ≡ false → Unprinted row w 16
 
 -- "then 15 and 16 left to right over a format that passed": that none of some parts is such, and the first that is. The last part stands first.
-abbrev pub Printed : List ℕ → Part → Type 0
-Printed row (text t) = Unit {0}
-Printed row percent = Unit {0}
-Printed row newline = Unit {0}
-Printed row (element w) = (number : ℕ) → Unprinted row w number → ⊥
+abbrev pub PartPrinted : List ℕ → Part → Type 0
+PartPrinted row (text t) = Unit {0}
+PartPrinted row percent = Unit {0}
+PartPrinted row newline = Unit {0}
+PartPrinted row (element w) = (number : ℕ) → Unprinted row w number → ⊥
 
 abbrev pub AllPrinted : List ℕ → List Part → Type 0
 AllPrinted row [] = Unit {0}
-AllPrinted row (p ∷ before) = Printed row p × AllPrinted row before
+AllPrinted row (p ∷ before) = PartPrinted row p × AllPrinted row before
 
 pub data FirstUnprinted (row : List ℕ) : List Part → ℕ → ℕ → Type 0 where
   here : {w : Written} {before : List Part} {number : ℕ} → Unprinted row w number → AllPrinted row before
-      → FirstUnprinted row (element w ∷ before) number (length (allBytes before))
+      → FirstUnprinted row (element w ∷ before) number (length (bytesBefore before))
   earlier : {p : Part} {before : List Part} {number place : ℕ} → FirstUnprinted row before number place → FirstUnprinted row (p ∷ before) number place
 
 -- "text longer than output or than 4,294,967,295, or more pieces than ends"

@@ -33,7 +33,7 @@ use Rattle.rows.proofs.Widths.{has-width}
 use Rattle.rows.proofs.Rows.{AllBytes, value-below, entry}
 use Rattle.elements.specs.Texts.{Shown, Text, Stops, integerText, valueText, elementText, textOf as shownText, stopOf}
 use Rattle.columns.specs.Columns.{FloatRead, bitsIn, ReadsBack}
-use Rattle.columns.proofs.Forms.{numeralLetter, floatLetter, NumeralRead, FiniteRead, IntegerRead, ValueRead}
+use Rattle.columns.proofs.Forms.{numeralLetter, floatLetter, NumeralRead, IntegerRead, ValueRead}
 use Rattle.columns.proofs.Letters.{NamedBy, among, is-decimal, is-octal, is-hex, is-upper-hex, is-float, is-upper-float}
 use Rattle.columns.proofs.Integers.{own-bits, numeral-read}
 use Rattle.columns.proofs.Floats.{float-read}

@@ -1,18 +1,17 @@
 -- The argument that an element takes, as reading finds it behind the parts before it. Assumes nothing.
 use mathlib.Core.Path.{_≡_, refl, sym, ap, subst, _∙_}
-use mathlib.Core.Bool.{Bool, true, false, _||_}
+use mathlib.Core.Bool.{Bool, true, false}
 use mathlib.Core.List.{List, [], _∷_, _++_, append-assoc}
-use mathlib.Core.Option.{Option, none, some}
+use mathlib.Core.Option.{Option, some}
 use Prim.Native.Nat.{ℕ, suc, _+_, _≤_, _<_}
 use Prim.Native.Char.{code}
 use native.Mathlib.Numerals.{add-one}
 use native.Mathlib.Omega.{arith}
-use lib.Dec.{eqb, leb}
+use lib.Dec.{eqb}
 use lib.ListN.{length, drop}
 use lib.Seq.{drop-drop}
-use borrow.Author.Tests.{eqb-true, eq-eqb, ne-eqb, le-leb, lt-leb}
+use borrow.Author.Tests.{eqb-true, ne-eqb}
 use Rattle.refusals.specs.Limits.{largestNumber}
-use Rattle.writing.specs.Choose.{choose}
 use Rattle.writing.specs.Text.{ascii, has}
 use Rattle.writing.proofs.Choose.{both}
 use Rattle.params.specs.Params.{isDigit, leadingDigits, isParam, numberAt}
@@ -20,13 +19,12 @@ use Rattle.params.specs.declared.Number.{Number}
 use Rattle.specifiers.specs.Specifier.{beginsWith}
 use Rattle.parsing.specs.Pieces.{amongKinds, indexOf, isIndex, indexAt, sameIndex, argumentAt}
 use Rattle.parsing.specs.declared.Cursor.{Cursor}
-use Rattle.parsing.specs.declared.Index.{Index}
 use Rattle.parsing.specs.declared.Index.the-variants as I
 use Rattle.grammar.specs.Runs.{begins, Run, numberIn}
 use Rattle.grammar.specs.Parts.{Choice, same, index, counted, choiceBytes, Part, countedBy, lastNamed}
-use Rattle.grammar.specs.Elements.{IsIndex, Uncounted, Names, by-last, by-index, by-count}
+use Rattle.grammar.specs.Elements.{IsIndex, NoChoice, Names, by-last, by-index, by-count}
 use Rattle.grammar.specs.Pieces.{IsLast, At}
-use Rattle.grammar.proofs.Runs.{leading, leading-split, digits-leading, digitsOf, digits-length}
+use Rattle.grammar.proofs.Runs.{leading, leading-split, digits-leading, digits-length}
 use Rattle.grammar.proofs.Letters.{never}
 use Rattle.grammar.proofs.Places.{drop-behind, digits-here, number-read, number-large, index-param, index-begins, index-of}
 
@@ -56,7 +54,7 @@ module _ (s : List ℕ) (at : ℕ) where
       let behind = ap (λ (n : ℕ). drop (at + n) s) count ∙ drop-behind s at ds (code "$" ∷ rest) here in
       simp (param, behind)
 
-  pub index-false : (rest : List ℕ) → drop at s ≡ rest → Uncounted rest → isIndex s at ≡ false
+  pub index-false : (rest : List ℕ) → drop at s ≡ rest → NoChoice rest → isIndex s at ≡ false
   index-false rest here u = go (isIndex s at) refl
     where
       go : (t : Bool) → isIndex s at ≡ t → t ≡ false
@@ -127,7 +125,7 @@ module _ (s : List ℕ) (n : ℕ) (c : Cursor) (before : List Part) (at : At bef
         ∙ ap (λ (x : Number). indexOf x n (c .count)) (number-large s (c .at + 1) ds (code "$" ∷ rest) digits-behind (index-run ds rest i) h)
 
   -- the running count
-  count-chosen : (rest : List ℕ) → Uncounted rest → drop (c .at) s ≡ code "%" ∷ rest → Chosen s n c counted (suc (c .count)) rest
+  count-chosen : (rest : List ℕ) → NoChoice rest → drop (c .at) s ≡ code "%" ∷ rest → Chosen s n c counted (suc (c .count)) rest
   unfolding argumentAt indexAt has
   count-chosen rest u here =
       record {

@@ -2,14 +2,13 @@
 use mathlib.Core.Path.{_≡_, refl, sym, ap, subst, _∙_}
 use mathlib.Core.Bool.{Bool, true, false, not}
 use mathlib.Core.List.{List, [], _∷_, _++_, append-assoc, append-nil}
-use mathlib.Core.Option.{Option, none, some}
-use Prim.Native.Nat.{ℕ, suc, _+_, _-_, _≤_, _<_}
+use mathlib.Core.Option.{Option}
+use Prim.Native.Nat.{ℕ, _+_, _-_, _≤_, _<_}
 use Prim.Native.Char.{code}
 use native.Mathlib.Omega.{arith}
 use lib.Dec.{eqb}
 use lib.ListN.{length, getD, drop, length-append, length-drop}
-use Rattle.writing.specs.Text.{ascii, has}
-use Rattle.conversions.specs.Kinds.{fitsKind}
+use Rattle.writing.specs.Text.{ascii}
 use Rattle.specifiers.specs.Flags.{flagsOf}
 use Rattle.specifiers.specs.Specifier.{beginsWith, letterFrom, specifierAt}
 use Rattle.specifiers.specs.declared.Element.{Element}
@@ -22,23 +21,23 @@ use Rattle.parsing.specs.declared.Piece.the-variants.{Fixed, Byte, Element as A
 use Rattle.parsing.specs.declared.Step.the-variants.{Found}
 use Rattle.parsing.proofs.Progress.{advanced}
 use Rattle.grammar.specs.Runs.{begins, Run}
-use Rattle.grammar.specs.Parts.{Choice, choiceBytes, Written, precisionBytes, elementBytes}
-use Rattle.grammar.specs.Parts.{Part, text, percent, newline, element, bytesOf, allBytes, countedBy, countedWith, countedIn, namedBy, namedWith, lastNamed}
+use Rattle.grammar.specs.Parts.{Choice, Written, elementBytes}
+use Rattle.grammar.specs.Parts.{Part, text, percent, newline, element, partBytes, bytesBefore}
+use Rattle.grammar.specs.Parts.{countedBy, countedWith, countedIn, namedBy, namedWith, lastNamed}
 use Rattle.grammar.specs.Elements.{Names, by-last, by-index, by-count, Lettered, kindAt, fitsBytes, Stands}
 use Rattle.grammar.specs.Elements as E
-use Rattle.grammar.specs.Pieces.{IsLast, At, paramRead, precisionRead, ElementIs, PieceIs}
+use Rattle.grammar.specs.Pieces.{IsLast, At, paramRead, precisionRead, PieceIs}
 use Rattle.grammar.specs.Pieces as Q
 use Rattle.grammar.proofs.Runs.{leading, notPercent, leading-is, text-leading}
-use Rattle.grammar.proofs.Letters.{never, SomeLetter}
+use Rattle.grammar.proofs.Letters.{never}
 use Rattle.grammar.proofs.Places.{drop-behind}
-use Rattle.grammar.proofs.Sections.{Argued}
 use Rattle.grammar.proofs.Steps.{KindsKnown, specifier-step, first-argument, so-far, named-so, is-letter, same-fit, read-letter}
 
 -- the bytes of an element
 pub element-bytes : {n : ℕ} {before : List Part} {r : List ℕ} {w : Written} {rest : List ℕ} → Lettered n before r w rest → r ≡ elementBytes w ++ rest
 element-bytes {w = w} {rest = rest} x = x .precise .wide .flagged .named .begun .bytes ∙ simp append-assoc
 
-pub stands-bytes : {ks : List ℕ} {before : List Part} {r : List ℕ} {p : Part} {rest : List ℕ} → Stands ks before r p rest → r ≡ bytesOf p ++ rest
+pub stands-bytes : {ks : List ℕ} {before : List Part} {r : List ℕ} {p : Part} {rest : List ℕ} → Stands ks before r p rest → r ≡ partBytes p ++ rest
 stands-bytes (E.is-text b run) = refl
 stands-bytes E.is-percent = refl
 stands-bytes E.is-newline = refl
@@ -62,15 +61,15 @@ pub record Finds (s ks : List ℕ) (c : Cursor) (before : List Part) (p : Part) 
 
 module _ (s ks : List ℕ) (c : Cursor) (before : List Part) (at : At before c) (inside : c .at < length s) where
   -- what the numbers of the next cursor mean, where its place is that of `rest`
-  next-at : {p : Part} {piece : Piece} {next : Cursor} (rest : List ℕ) → pieceAt s ks c ≡ Found piece next → drop (c .at) s ≡ bytesOf p ++ rest
+  next-at : {p : Part} {piece : Piece} {next : Cursor} (rest : List ℕ) → pieceAt s ks c ≡ Found piece next → drop (c .at) s ≡ partBytes p ++ rest
       → drop (next .at) s ≡ rest → next .count ≡ countedWith p (c .count) → IsLast (namedWith p (lastNamed before)) (next .last) → At (p ∷ before) next
-  unfolding allBytes countedIn lastNamed
+  unfolding bytesBefore countedIn lastNamed
   next-at {p} {piece} {next} rest found here left count last =
       let a = advanced s ks c piece next inside found in
-      let whole : length s - c .at ≡ length (bytesOf p) + length rest = sym (length-drop (c .at) s) ∙ ap length here ∙ length-append (bytesOf p) rest in
+      let whole : length s - c .at ≡ length (partBytes p) + length rest = sym (length-drop (c .at) s) ∙ ap length here ∙ length-append (partBytes p) rest in
       let end : length s - next .at ≡ length rest = sym (length-drop (next .at) s) ∙ ap length left in
       record {
-        place = omega (arith, at .place, a .forward, a .inside, length-append (allBytes before) (bytesOf p));
+        place = omega (arith, at .place, a .forward, a .inside, length-append (bytesBefore before) (partBytes p));
         count = count ∙ ap (countedWith p) (at .count);
         last = last;
       }
@@ -186,6 +185,8 @@ module _ (s ks : List ℕ) (c : Cursor) (before : List Part) (at : At before c) 
                 flags = refl;
                 width = refl;
                 precision = refl;
+                conversion = y .is .named;
+                upper = y .is .capital;
                 letter =
                     ap (λ (l : List ℕ). letterFrom l 0) (sym (append-nil (w .letter)))
                     ∙ y .is .read [] 0

@@ -1,9 +1,9 @@
 -- The letters that 01 lists are those that reading knows, and they fit the kinds as its table says. Assumes nothing.
 use mathlib.Core.Path.{_≡_, refl, sym, ap, subst, _∙_}
 use mathlib.Core.Bool.{Bool, true, false, not, _&&_, _||_}
-use mathlib.Core.List.{List, [], _∷_, _++_, map}
+use mathlib.Core.List.{List, [], _∷_, _++_}
 use Prim.Native.Nat.{ℕ, _+_}
-use Prim.Native.Char.{Char, code}
+use Prim.Native.Char.{code}
 use native.Mathlib.Omega.{arith}
 use lib.Dec.{eqb}
 use lib.ListN.{length}
@@ -15,9 +15,7 @@ use Rattle.conversions.specs.Letters.{lookup, timeLetters as timeTable, timeOf,
 use Rattle.conversions.specs.Kinds.{integerKinds, otherKinds, isIntegerKind, kindOf, fits}
 use Rattle.conversions.specs.declared.ConversionType.{ConversionType}
 use Rattle.conversions.specs.declared.ConversionType.the-variants.{Time}
-use Rattle.conversions.specs.declared.Kind.{Kind}
 use Rattle.conversions.specs.declared.Kind.the-variants as K
-use Rattle.conversions.specs.declared.KindByte.{KindByte}
 use Rattle.conversions.specs.declared.KindByte.the-variants.{Known, Unknown}
 use Rattle.conversions.specs.declared.Letter.{Letter}
 use Rattle.conversions.specs.declared.Letter.the-variants.{Conversion, NoConversion}
@@ -28,6 +26,7 @@ use Rattle.specifiers.specs.declared.LetterTaken.{LetterTaken}
 use Rattle.specifiers.specs.declared.LetterTaken.the-variants as L
 use Rattle.parsing.specs.Check.{isKnown}
 use Rattle.grammar.specs.Runs.{begins, all}
+use Rattle.grammar.specs.Pieces.{lettersOf, capitals}
 use Rattle.grammar.specs.Elements.{letters, timeLetters, IsLetter, plain, time, kinds, needs, inTable, fitsBytes}
 
 pub never : false ≡ true → ⊥
@@ -92,6 +91,15 @@ all-fit : all (λ b. all (λ k. same (inTable needs b k) (fitsRead (one b) k)) k
 unfolding all has one smallOf capitalOf isIntegerKind
 all-fit = refl
 
+-- which conversion a letter names, and whether it is a capital
+abbrev namesRead : LetterTaken → ℕ → Bool
+namesRead (L.Read c u at) b = has (lettersOf c) b && same u (has capitals b)
+namesRead (L.Refused n) b = false
+
+all-named : all (λ b. namesRead (one b) b) letters ≡ true
+unfolding all has one smallOf capitalOf
+all-named = refl
+
 all-times : all (λ b. isComponent (timeOf b)) timeLetters ≡ true
 unfolding all timeOf
 all-times = refl
@@ -100,6 +108,8 @@ all-times = refl
 pub record LetterIs (x : List ℕ) (c : ConversionType) (u : Bool) : Type 0 where
   pub read : (rest : List ℕ) (at : ℕ) → letterFrom (x ++ rest) at ≡ L.Read c u (at + length x)
   pub fits-as : (k : ℕ) → has kinds k ≡ true → fitsBytes x k ≡ fits c k
+  pub named : begins (has (lettersOf c)) x ≡ true
+  pub capital : u ≡ begins (has capitals) x
 
 pub record SomeLetter (x : List ℕ) : Type 0 where
   pub conversion : ConversionType
@@ -128,6 +138,14 @@ plain-letter l h = go (smallOf l) (capitalOf l) refl refl (all-has (λ b. wasRea
         (all-has (λ k. same (inTable needs l k) (fitsRead (one l) k)) kinds k
         (all-has (λ b. all (λ k. same (inTable needs b k) (fitsRead (one b) k)) kinds) letters l all-fit h) i)
 
+    names : namesRead (one l) l ≡ true
+    names = all-has (λ b. namesRead (one b) b) letters l all-named h
+
+    named-so : (c : ConversionType) (u : Bool) → one l ≡ L.Read c u 1 → (has (lettersOf c) l ≡ true) × (u ≡ has capitals l)
+    named-so c u e =
+        let p = both (has (lettersOf c) l) (same u (has capitals l)) (ap (λ (t : LetterTaken). namesRead t l) (sym e) ∙ names) in
+        (p .0, same-is u (has capitals l) (p .1))
+
     at-once : (rest : List ℕ) (at : ℕ) → letterFrom (l ∷ rest) at ≡ oneLetter (smallOf l) (capitalOf l) at
     at-once rest at = let n = not-time l h in simp (n .0, n .1)
 
@@ -138,6 +156,8 @@ plain-letter l h = go (smallOf l) (capitalOf l) refl refl (all-has (λ b. wasRea
       is = record {
         read = λ rest at. at-once rest at ∙ ap (λ (x : Letter). oneLetter x (capitalOf l) at) p;
         fits-as = λ k i. as-table k i ∙ ap (λ (x : Letter). fitsRead (oneLetter x (capitalOf l) 0) k) p;
+        named = named-so c false (ap (λ (x : Letter). oneLetter x (capitalOf l) 0) p) .0;
+        capital = named-so c false (ap (λ (x : Letter). oneLetter x (capitalOf l) 0) p) .1;
       };
     }
     go NoConversion (Conversion c) p q r = record {
@@ -147,6 +167,8 @@ plain-letter l h = go (smallOf l) (capitalOf l) refl refl (all-has (λ b. wasRea
         read = λ rest at. at-once rest at ∙ ap (λ (x : Letter). oneLetter x (capitalOf l) at) p ∙ ap (λ (x : Letter). capitalTaken x at) q;
         fits-as = λ k i.
             as-table k i ∙ ap (λ (x : Letter). fitsRead (oneLetter x (capitalOf l) 0) k) p ∙ ap (λ (x : Letter). fitsRead (capitalTaken x 0) k) q;
+        named = named-so c true (ap (λ (x : Letter). oneLetter x (capitalOf l) 0) p ∙ ap (λ (x : Letter). capitalTaken x 0) q) .0;
+        capital = named-so c true (ap (λ (x : Letter). oneLetter x (capitalOf l) 0) p ∙ ap (λ (x : Letter). capitalTaken x 0) q) .1;
       };
     }
     go NoConversion NoConversion p q r = absurd (never r)
@@ -176,6 +198,10 @@ time-fits t k h = go (eqb t (code "t")) (eqb t (code "T")) refl refl (either-tim
     go false true p q e = ap (λ (x : ℕ). inTable needs x k) (eqb-true t (code "T") q)
     go false false p q e = absurd (never e)
 
+time-capital : (t : ℕ) → has (ascii "tT") t ≡ true → eqb t (code "T") ≡ has capitals t
+unfolding all has
+time-capital t h = same-is (eqb t (code "T")) (has capitals t) (all-has (λ t. same (eqb t (code "T")) (has capitals t)) (ascii "tT") t refl h)
+
 time-letter : (t l : ℕ) → has (ascii "tT") t ≡ true → has timeLetters l ≡ true → SomeLetter (t ∷ l ∷ [])
 time-letter t l h i = go (timeOf l) refl (all-has (λ b. isComponent (timeOf b)) timeLetters l all-times i)
   where
@@ -186,6 +212,8 @@ time-letter t l h i = go (timeOf l) refl (all-has (λ b. isComponent (timeOf b))
       is = record {
         read = λ rest at. second t h (l ∷ rest) at ∙ ap (λ (x : TimeLetter). timeLetter (eqb t (code "T")) x at) p;
         fits-as = λ k _. time-fits t k h;
+        named = h;
+        capital = time-capital t h;
       };
     }
     go NoComponent p r = absurd (never r)

@@ -1,8 +1,7 @@
 -- The i-th piece that is listed, and the part that it is. Assumes nothing.
 use mathlib.Core.Path.{_≡_, refl, sym, ap, subst, _∙_}
-use mathlib.Core.Bool.{Bool, true, false}
 use mathlib.Core.List.{List, [], _∷_, _++_, append-assoc, append-nil}
-use Prim.Native.Nat.{ℕ, suc, _+_, _-_, _≤_, _<_, max}
+use Prim.Native.Nat.{ℕ, _+_, _-_, _<_, max}
 use native.Mathlib.Decide.{decLt}
 use native.Mathlib.Omega.{arith}
 use lib.ListN.{length, getD, length-append, List·getD-append}
@@ -11,7 +10,7 @@ use Rattle.parsing.specs.Check.{argumentOf, largestOf}
 use Rattle.parsing.specs.Listed.{Placed}
 use Rattle.parsing.specs.declared.Piece.{Piece}
 use Rattle.parsing.proofs.Cover.{largest-one}
-use Rattle.grammar.specs.Parts.{Part, bytesOf, allBytes, argumentIn, largestIn}
+use Rattle.grammar.specs.Parts.{Part, partBytes, bytesBefore, argumentIn, largestIn}
 use Rattle.grammar.specs.Pieces.{PieceIs, Lists}
 use Rattle.grammar.specs.Pieces as Q
 
@@ -20,12 +19,12 @@ pub record IsPart (x : Placed) (parts : List Part) : Type 0 where
   pub before : List Part
   pub part : Part
   pub tail : List ℕ
-  pub is : PieceIs (length (allBytes before)) (x .piece) part
-  pub to : x .to ≡ length (allBytes (part ∷ before))
-  pub bytes : allBytes parts ≡ allBytes (part ∷ before) ++ tail
+  pub is : PieceIs (length (bytesBefore before)) (x .piece) part
+  pub to : x .to ≡ length (bytesBefore (part ∷ before))
+  pub bytes : bytesBefore parts ≡ bytesBefore (part ∷ before) ++ tail
 
 pub nth-part : {ps : List Placed} {parts : List Part} → Lists ps parts → (i : ℕ) (d : Placed) → i < length ps → IsPart (getD ps i d) parts
-unfolding allBytes
+unfolding bytesBefore
 nth-part Q.nothing i d h = absurd (omega arith)
 nth-part (Q.one {ps} {before} {x} {p} w is from to) i d h = elim (decLt i (length ps)) [
   | yes l ↦
@@ -35,15 +34,15 @@ nth-part (Q.one {ps} {before} {x} {p} w is from to) i d h = elim (decLt i (lengt
       (record {
         before = r .before;
         part = r .part;
-        tail = r .tail ++ bytesOf p;
+        tail = r .tail ++ partBytes p;
         is = r .is;
         to = r .to;
-        bytes = ap (λ (l : List ℕ). l ++ bytesOf p) (r .bytes) ∙ append-assoc (allBytes (r .part ∷ r .before)) (r .tail) (bytesOf p);
+        bytes = ap (λ (l : List ℕ). l ++ partBytes p) (r .bytes) ∙ append-assoc (bytesBefore (r .part ∷ r .before)) (r .tail) (partBytes p);
       })
   | no n ↦
       let e : getD (ps ++ (x ∷ [])) i d ≡ x = getD-at ps x [] d i (omega (arith, length-append ps (x ∷ []))) in
       subst (λ (y : Placed). IsPart y (p ∷ before)) (sym e)
-      (record { before = before; part = p; tail = []; is = is; to = to; bytes = sym (append-nil (allBytes before ++ bytesOf p)) })
+      (record { before = before; part = p; tail = []; is = is; to = to; bytes = sym (append-nil (bytesBefore before ++ partBytes p)) })
 ]
 
 -- As many pieces are listed as there are parts, and their largest argument is that of the parts.

@@ -1,8 +1,7 @@
 -- Null marks do not matter to reading: the pieces under kind bytes, and where reading them ends, are those under the kinds without marks. Assumes nothing.
-use mathlib.Core.Path.{_≡_, refl, sym, ap, _∙_}
-use mathlib.Core.Bool.{true, false}
+use mathlib.Core.Path.{_≡_, refl, ap, _∙_}
 use mathlib.Core.List.{List, [], _∷_, map}
-use Prim.Native.Nat.{ℕ, zero, suc, _+_, _-_, _%_, _<_}
+use Prim.Native.Nat.{ℕ, zero, suc, _-_, _%_}
 use native.Mathlib.Nat.{mod-mod}
 use lib.Dec.{ltb}
 use lib.ListN.{length, getD}
@@ -10,14 +9,13 @@ use Rattle.refusals.specs.Limits.{mostPieces}
 use Rattle.writing.specs.Choose.{choose}
 use Rattle.conversions.specs.Kinds.{fits, fitsKind}
 use Rattle.conversions.specs.declared.ConversionType.{ConversionType}
-use Rattle.specifiers.specs.Specifier.{fitted, letterAt, afterLetter, partsAt, afterParts, specifierAt}
+use Rattle.specifiers.specs.Specifier.{letterAt, afterLetter, partsAt, afterParts, specifierAt}
 use Rattle.specifiers.specs.declared.LetterTaken.{LetterTaken}
 use Rattle.specifiers.specs.declared.LetterTaken.the-variants as L
 use Rattle.specifiers.specs.declared.Parts.{Parts}
 use Rattle.specifiers.specs.declared.PartsTaken.{PartsTaken}
 use Rattle.specifiers.specs.declared.PartsTaken.the-variants as P
-use Rattle.specifiers.specs.declared.Specifier.{Specifier}
-use Rattle.parsing.specs.Pieces.{start, argumentAt, afterSpecifier, afterIndex, afterPercent, elementAt, pieceAt}
+use Rattle.parsing.specs.Pieces.{start, argumentAt, afterSpecifier, afterIndex, elementAt, pieceAt}
 use Rattle.parsing.specs.Listed.{Placed, andRest, placedFrom, placed, afterStep, endFrom, ended}
 use Rattle.parsing.specs.declared.Cursor.{Cursor}
 use Rattle.parsing.specs.declared.Ended.{Ended}

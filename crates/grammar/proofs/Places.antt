@@ -1,24 +1,22 @@
 -- What reading takes at a place, where a run stands there: flags, a number. Assumes nothing.
-use mathlib.Core.Path.{_≡_, refl, sym, ap, subst, _∙_}
+use mathlib.Core.Path.{_≡_, refl, sym, ap, _∙_}
 use mathlib.Core.Bool.{Bool, true, false, not, _&&_, _||_}
 use mathlib.Core.List.{List, [], _∷_, _++_}
 use mathlib.Core.Option.{Option, none, some}
 use Prim.Native.Nat.{ℕ, _+_, _≤_, _<_}
 use Prim.Native.Char.{code}
 use native.Mathlib.Omega.{arith}
-use lib.Dec.{eqb, leb}
+use lib.Dec.{eqb}
 use lib.ListN.{length, drop}
 use lib.Seq.{drop-drop, drop-append-seam}
-use borrow.Author.Tests.{eqb-true, ne-eqb, le-leb, lt-leb}
+use borrow.Author.Tests.{ne-eqb, le-leb, lt-leb}
 use Rattle.refusals.specs.Limits.{largestNumber}
-use Rattle.writing.specs.Choose.{choose}
 use Rattle.writing.specs.Text.{ascii, has}
 use Rattle.writing.proofs.Choose.{both}
 use Rattle.numerals.specs.Digits.{numberFrom, numberOf}
 use Rattle.params.specs.Params.{isDigit, leadingDigits, isParam, numberTaken, numberAt, paramOf, paramAt}
 use Rattle.params.specs.declared.Number.the-variants as N
 use Rattle.params.specs.declared.NumericParam.the-variants.{FromArgument}
-use Rattle.params.specs.declared.Taken.{Taken}
 use Rattle.params.specs.declared.Taken.the-variants.{Param, TooLarge}
 use Rattle.specifiers.specs.Flags.{leadingFlags, flagsOf, firstClash, flagsTaken, flagsAt}
 use Rattle.specifiers.specs.declared.FlagsTaken.the-variants as F

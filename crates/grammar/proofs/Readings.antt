@@ -1,10 +1,8 @@
 -- Reading a format ends where its bytes say, and the pieces that it lists are the parts that stand there. Assumes nothing but that the kinds are known.
 use mathlib.Core.Path.{_≡_, refl, sym, ap, subst, _∙_}
-use mathlib.Core.Bool.{Bool, true, false, not}
+use mathlib.Core.Bool.{true}
 use mathlib.Core.List.{List, [], _∷_, _++_, append-assoc, append-nil}
-use mathlib.Core.Option.{Option, none, some}
 use Prim.Native.Nat.{ℕ, zero, suc, _+_, _-_, _≤_, _<_}
-use Prim.Native.Char.{code}
 use native.Mathlib.Omega.{arith}
 use lib.ListN.{length, drop, length-append, length-drop}
 use Rattle.refusals.specs.Limits.{mostPieces}
@@ -12,11 +10,10 @@ use Rattle.writing.specs.Text.{ascii, has}
 use Rattle.parsing.specs.Pieces.{start, pieceAt}
 use Rattle.parsing.specs.Listed.{Placed, placedFrom, endFrom, placed, ended}
 use Rattle.parsing.specs.declared.Cursor.{Cursor}
-use Rattle.parsing.specs.declared.Ended.{Ended}
 use Rattle.parsing.specs.declared.Ended.the-variants.{Finished, Stopped}
 use Rattle.parsing.proofs.Iteration.{placed-found, placed-past, end-found, end-refused, end-many, end-past}
 use Rattle.grammar.specs.Runs.{begins}
-use Rattle.grammar.specs.Parts.{Written, Part, bytesOf, allBytes, countedIn, lastNamed}
+use Rattle.grammar.specs.Parts.{Written, Part, partBytes, bytesBefore, countedIn, lastNamed}
 use Rattle.grammar.specs.Elements.{Begun, Stands, Reads}
 use Rattle.grammar.specs.Elements as E
 use Rattle.grammar.specs.Faults.{Fault}
@@ -31,7 +28,7 @@ use Rattle.grammar.proofs.Found.{Finds, stands-bytes, stands-finds}
 use Rattle.grammar.proofs.Total.{Verdict, stands, faulty, verdict}
 
 -- a part has bytes
-some-bytes : {ks : List ℕ} {before : List Part} {r : List ℕ} {p : Part} {rest : List ℕ} → Stands ks before r p rest → 1 ≤ length (bytesOf p)
+some-bytes : {ks : List ℕ} {before : List Part} {r : List ℕ} {p : Part} {rest : List ℕ} → Stands ks before r p rest → 1 ≤ length (partBytes p)
 some-bytes (E.is-text {t} b run) = not-empty t b
   where
     not-empty : (t : List ℕ) → begins notPercent t ≡ true → 1 ≤ length t
@@ -67,11 +64,11 @@ fault-byte {r = r} x = go r (fault-percent x)
     go (b ∷ bs) e = omega arith
 
 -- The bytes of the parts are those of the format up to what is left.
-pub reads-bytes : {s ks : List ℕ} {before : List Part} {r : List ℕ} → Reads s ks before r → s ≡ allBytes before ++ r
-unfolding allBytes
+pub reads-bytes : {s ks : List ℕ} {before : List Part} {r : List ℕ} → Reads s ks before r → s ≡ bytesBefore before ++ r
+unfolding bytesBefore
 reads-bytes E.nothing = refl
 reads-bytes (E.one {before} {r} {p} {rest} w x) =
-    reads-bytes w ∙ ap (λ (l : List ℕ). allBytes before ++ l) (stands-bytes x) ∙ sym (append-assoc (allBytes before) (bytesOf p) rest)
+    reads-bytes w ∙ ap (λ (l : List ℕ). bytesBefore before ++ l) (stands-bytes x) ∙ sym (append-assoc (bytesBefore before) (partBytes p) rest)
 
 module _ (s ks : List ℕ) (known : KindsKnown ks) where
   -- Where reading stands behind parts that stand in the format: a cursor whose numbers say what they are, the pieces so far, and what reading comes to from
@@ -86,7 +83,7 @@ module _ (s ks : List ℕ) (known : KindsKnown ks) where
     pub all : placed s ks ≡ pieces ++ placedFrom (mostPieces - length before) (pieceAt s ks) (length s) c
 
   came-start : Came [] s
-  unfolding ended placed allBytes countedIn lastNamed
+  unfolding ended placed bytesBefore countedIn lastNamed
   came-start = record {
     c = start;
     at = record { place = refl; count = refl; last = refl };
@@ -143,7 +140,7 @@ module _ (s ks : List ℕ) (known : KindsKnown ks) where
   came-next : {before : List Part} {r : List ℕ} {p : Part} {rest : List ℕ} → length before < mostPieces → Came before r → Stands ks before r p rest
       → Came (p ∷ before) rest
   came-next {before} {r} {p} {rest} few w x =
-      let inside = byte-left w (omega (arith, some-bytes x, ap length (stands-bytes x), length-append (bytesOf p) rest)) in
+      let inside = byte-left w (omega (arith, some-bytes x, ap length (stands-bytes x), length-append (partBytes p) rest)) in
       came-found few w inside (stands-finds s ks (w .c) before (w .at) inside known r (w .here) x)
 
   -- Reading comes to every part that stands in the format.

@@ -1,38 +1,31 @@
 -- An element, section by section, as reading takes it: argument, flags, width, precision and letter. Assumes nothing.
-use mathlib.Core.Path.{_≡_, refl, sym, ap, subst, _∙_}
-use mathlib.Core.Bool.{Bool, true, false}
+use mathlib.Core.Path.{_≡_, refl, ap, _∙_}
+use mathlib.Core.Bool.{true, false}
 use mathlib.Core.List.{List, [], _∷_, _++_}
 use mathlib.Core.Option.{Option, none, some}
-use Prim.Native.Nat.{ℕ, _+_, _-_, _%_, _≤_, _<_}
+use Prim.Native.Nat.{ℕ, _+_, _-_, _<_}
 use Prim.Native.Char.{code}
 use native.Mathlib.Omega.{arith}
-use lib.Dec.{leb}
 use lib.ListN.{length, getD, drop}
-use borrow.Author.Tests.{le-leb, lt-leb}
+use borrow.Author.Tests.{le-leb}
 use Rattle.refusals.specs.Limits.{largestNumber}
 use Rattle.writing.specs.Text.{ascii, has}
 use Rattle.params.specs.Params.{isDigit, isParam, paramAt}
 use Rattle.params.specs.declared.NumericParam.the-variants.{FromArgument}
-use Rattle.params.specs.declared.Taken.the-variants.{Param, TooLarge}
-use Rattle.conversions.specs.Kinds.{fits, fitsKind}
+use Rattle.params.specs.declared.Taken.the-variants.{Param}
 use Rattle.specifiers.specs.Flags.{flagsOf, flagsAt}
-use Rattle.specifiers.specs.Specifier.{beginsWith, precisionAt, letterFrom, letterAt, afterPrecision, afterWidth, afterFlags, partsAt, afterLetter, afterParts, specifierAt}
-use Rattle.specifiers.specs.declared.Element.{Element}
+use Rattle.specifiers.specs.Specifier.{beginsWith, precisionAt, letterFrom, letterAt, partsAt, afterLetter, specifierAt}
 use Rattle.specifiers.specs.declared.FlagsTaken.the-variants as F
-use Rattle.specifiers.specs.declared.LetterTaken.the-variants as L
 use Rattle.specifiers.specs.declared.Parts.{Parts}
-use Rattle.specifiers.specs.declared.PartsTaken.the-variants as P
 use Rattle.specifiers.specs.declared.Specifier.{Specifier}
 use Rattle.specifiers.specs.declared.Specifier.the-variants as S
-use Rattle.parsing.specs.Pieces.{amongKinds, argumentAt}
+use Rattle.parsing.specs.Pieces.{argumentAt}
 use Rattle.parsing.specs.declared.Cursor.{Cursor}
 use Rattle.parsing.specs.declared.Index.the-variants as I
 use Rattle.grammar.specs.Runs.{begins, Run, numberIn}
-use Rattle.grammar.specs.Parts.{Choice, Written, precisionBytes, Part, countedBy}
-use Rattle.grammar.specs.Elements.{kinds, Begun, Named, isFlag, Clash, Free, Flagged, Wide, PrecisionRun, absent, given, Precise, letters, timeLetters}
-use Rattle.grammar.specs.Elements.{IsLetter, Lettered, kindAt, fitsBytes}
-use Rattle.grammar.specs.Pieces.{At, paramRead, precisionRead, ElementIs}
-use Rattle.grammar.proofs.Letters.{LetterIs, SomeLetter, letter-is, no-letter-is, no-time-is}
+use Rattle.grammar.specs.Parts.{Written, precisionBytes, Part, countedBy}
+use Rattle.grammar.specs.Elements.{Begun, Named, isFlag, Clash, Free, Flagged, Wide, PrecisionRun, absent, given, Precise}
+use Rattle.grammar.specs.Pieces.{At, paramRead, precisionRead}
 use Rattle.grammar.proofs.Places.{drop-behind, flags-read, flags-refused, param-read, param-large, width-digit, precision-digit}
 use Rattle.grammar.proofs.Choices.{begins-none, Chosen, chosen}
 

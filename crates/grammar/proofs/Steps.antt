@@ -1,49 +1,34 @@
 -- Reading one piece: where a part stands, it is found, and where a fault stands, its number is answered. Assumes nothing.
 use mathlib.Core.Path.{_≡_, refl, sym, ap, subst, _∙_}
-use mathlib.Core.Bool.{Bool, true, false, not}
+use mathlib.Core.Bool.{true, false}
 use mathlib.Core.List.{List, [], _∷_, _++_, append-assoc}
-use mathlib.Core.Option.{Option, none, some}
-use Prim.Native.Nat.{ℕ, suc, _+_, _-_, _%_, _≤_, _<_}
+use mathlib.Core.Option.{Option}
+use Prim.Native.Nat.{ℕ, _+_, _-_, _%_, _≤_, _<_}
 use Prim.Native.Char.{code}
-use native.Mathlib.Omega.{arith}
-use lib.Dec.{eqb, leb}
-use lib.ListN.{length, getD, drop, length-append, length-drop}
+use lib.Dec.{eqb}
+use lib.ListN.{length, getD, drop}
 use borrow.Author.Tests.{eq-eqb, lt-leb}
-use Rattle.writing.specs.Choose.{choose}
 use Rattle.writing.specs.Text.{ascii, has}
 use Rattle.params.specs.Params.{isDigit}
-use Rattle.conversions.specs.Kinds.{fits, fitsKind}
-use Rattle.conversions.specs.declared.ConversionType.{ConversionType}
+use Rattle.conversions.specs.Kinds.{fitsKind}
 use Rattle.specifiers.specs.Flags.{flagsOf}
-use Rattle.specifiers.specs.Specifier.{beginsWith, letterFrom, afterLetter, specifierAt}
-use Rattle.specifiers.specs.declared.Element.{Element}
-use Rattle.specifiers.specs.declared.LetterTaken.{LetterTaken}
+use Rattle.specifiers.specs.Specifier.{beginsWith, afterLetter, specifierAt}
 use Rattle.specifiers.specs.declared.LetterTaken.the-variants as L
-use Rattle.specifiers.specs.declared.Specifier.{Specifier}
 use Rattle.specifiers.specs.declared.Specifier.the-variants as S
-use Rattle.parsing.specs.Pieces.{passed, textLength, amongKinds, sameIndex, indexAt, argumentAt, afterSpecifier, afterIndex, elementAt, pieceAt}
+use Rattle.parsing.specs.Pieces.{indexAt, argumentAt, afterSpecifier, afterIndex, elementAt, pieceAt}
 use Rattle.parsing.specs.declared.Cursor.{Cursor}
-use Rattle.parsing.specs.declared.Index.{Index}
 use Rattle.parsing.specs.declared.Index.the-variants as I
-use Rattle.parsing.specs.declared.Piece.{Piece}
-use Rattle.parsing.specs.declared.Piece.the-variants.{Fixed, Byte, Element as AnElement}
-use Rattle.parsing.specs.declared.Step.{Step}
-use Rattle.parsing.specs.declared.Step.the-variants.{Found, Refused}
+use Rattle.parsing.specs.declared.Step.the-variants.{Refused}
 use Rattle.parsing.proofs.Indexes.{argument-named}
-use Rattle.parsing.proofs.Progress.{advanced}
-use Rattle.grammar.specs.Runs.{begins, Run, numberIn}
-use Rattle.grammar.specs.Parts.{Choice, same, index, counted, choiceBytes, Written, precisionBytes, elementBytes}
-use Rattle.grammar.specs.Parts.{Part, text, percent, newline, element, bytesOf, allBytes, countedBy, countedIn, namedBy, lastNamed}
-use Rattle.grammar.specs.Elements.{kinds, IsIndex, Names, by-last, by-index, by-count, Begun, Named, Lettered, Precise, IsLetter, kindAt, fitsBytes, Stands}
-use Rattle.grammar.specs.Elements as E
+use Rattle.grammar.specs.Parts.{Choice, choiceBytes, Written, precisionBytes}
+use Rattle.grammar.specs.Parts.{Part, countedBy}
+use Rattle.grammar.specs.Elements.{kinds, Names, by-last, by-index, by-count, Begun, Named, Lettered, kindAt, fitsBytes}
 use Rattle.grammar.specs.Faults as K
 use Rattle.grammar.specs.Faults.{Fault}
-use Rattle.grammar.specs.Pieces.{IsLast, At, paramRead, precisionRead, ElementIs, PieceIs}
-use Rattle.grammar.specs.Pieces as Q
-use Rattle.grammar.proofs.Runs.{leading, notPercent, leading-is, text-leading}
-use Rattle.grammar.proofs.Letters.{never, LetterIs, SomeLetter, letter-is, no-letter-is, no-time-is}
+use Rattle.grammar.specs.Pieces.{IsLast, At, paramRead, precisionRead}
+use Rattle.grammar.proofs.Letters.{SomeLetter, letter-is, no-letter-is, no-time-is}
 use Rattle.grammar.proofs.Places.{drop-behind, index-begins}
-use Rattle.grammar.proofs.Choices.{begins-with, begins-none, Chosen, same-step, index-large}
+use Rattle.grammar.proofs.Choices.{begins-with, begins-none, same-step, index-large}
 use Rattle.grammar.proofs.Sections.{argument-chosen, Argued, argued, flags-taken, width-taken, PartsRead, parts-taken}
 use Rattle.grammar.proofs.Sections.{clash-refused, width-refused, precision-refused, letter-next}
 

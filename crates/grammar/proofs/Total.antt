@@ -1,6 +1,6 @@
 -- Wherever bytes are left of a format, a part or a fault stands. Assumes nothing.
 use mathlib.Core.Path.{_≡_, refl, sym, ap, subst, _∙_}
-use mathlib.Core.Bool.{Bool, true, false, not, _&&_, _||_}
+use mathlib.Core.Bool.{Bool, true, false, _||_}
 use mathlib.Core.List.{List, [], _∷_, _++_, append-assoc}
 use mathlib.Core.Option.{Option, none, some}
 use Prim.Native.Nat.{ℕ, suc, _+_, _≤_, _<_}
@@ -8,7 +8,7 @@ use Prim.Native.Char.{code}
 use native.Mathlib.Decide.{decLt}
 use native.Mathlib.Omega.{arith}
 use lib.Dec.{eqb}
-use lib.ListN.{length, drop, length-append}
+use lib.ListN.{length, drop}
 use lib.Seq.{drop-append-seam}
 use borrow.Author.Tests.{eqb-true}
 use Rattle.refusals.specs.Limits.{largestNumber}
@@ -17,14 +17,14 @@ use Rattle.params.specs.Params.{isDigit, isParam}
 use Rattle.specifiers.specs.Flags.{firstClash}
 use Rattle.specifiers.specs.Specifier.{beginsWith}
 use Rattle.grammar.specs.Runs.{begins, Run, numberIn}
-use Rattle.grammar.specs.Parts.{Choice, same, index, counted, choiceBytes, Written, precisionBytes, Part, text, percent, newline, element, countedIn, lastNamed}
-use Rattle.grammar.specs.Elements.{IsIndex, Uncounted, Names, by-last, by-index, by-count, Begun, Named, isFlag, Free, Flagged, Wide, absent, given}
+use Rattle.grammar.specs.Parts.{Choice, same, index, counted, choiceBytes, Written, Part, countedIn, lastNamed}
+use Rattle.grammar.specs.Elements.{IsIndex, Names, by-last, by-index, by-count, Begun, Named, isFlag, Free, Flagged, Wide, absent, given}
 use Rattle.grammar.specs.Elements.{Precise, letters, timeLetters, IsLetter, plain, time, Lettered, kindAt, fitsBytes, Stands}
 use Rattle.grammar.specs.Elements as E
 use Rattle.grammar.specs.Faults.{Fault}
 use Rattle.grammar.specs.Faults as K
 use Rattle.grammar.proofs.Runs.{leading, leading-run, leading-split, leading-is, notPercent}
-use Rattle.grammar.proofs.Clashes.{First, flags-free, flags-clash}
+use Rattle.grammar.proofs.Clashes.{flags-free, flags-clash}
 use Rattle.grammar.proofs.Letters.{never}
 use Rattle.grammar.proofs.Places.{index-param, index-of}
 use Rattle.grammar.proofs.Choices.{begins-cons, index-run}

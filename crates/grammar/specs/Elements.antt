@@ -20,8 +20,8 @@ pub record IsIndex (ds : List ℕ) : Type 0 where
   pub first : begins isDigit ds ≡ true
   pub not-zero : begins (has (ascii "0")) ds ≡ false
 
--- Bytes behind a `%` that are neither `%%`, `%n`, `%<`, `%$` nor begin with an index and `$`.
-pub record Uncounted (rest : List ℕ) : Type 0 where
+-- Bytes behind a `%` that name no argument, so that the running count does: they do not begin with `%`, `n`, `<` or `$`, nor with an index and `$`.
+pub record NoChoice (rest : List ℕ) : Type 0 where
   pub other : begins (has (ascii "%n<$")) rest ≡ false
   pub no-index : (ds more : List ℕ) → IsIndex ds → rest ≡ ds ++ (code "$" ∷ more) → ⊥
 
@@ -30,43 +30,45 @@ pub record Uncounted (rest : List ℕ) : Type 0 where
 pub data Names (before : List Part) : Choice → List ℕ → ℕ → Type 0 where
   by-last : {a : ℕ} {rest : List ℕ} → lastNamed before ≡ some a → Names before same rest a
   by-index : {ds rest : List ℕ} → IsIndex ds → numberIn ds ≤ largestNumber → Names before (index ds) rest (numberIn ds)
-  by-count : {rest : List ℕ} → Uncounted rest → Names before counted rest (suc (countedIn before))
+  by-count : {rest : List ℕ} → NoChoice rest → Names before counted rest (suc (countedIn before))
 
--- An element w that begins where the bytes r stand, up to what is left of these: behind its `%` and its choice of an argument,
+-- An element w that begins where the bytes r stand is read section by section; `rest` is what is left behind each. First its `%` and its choice of an argument.
 pub record Begun (before : List Part) (r : List ℕ) (w : Written) (rest : List ℕ) : Type 0 where
   pub bytes : r ≡ code "%" ∷ (choiceBytes (w .choice) ++ rest)
   pub names : Names before (w .choice) rest (w .argument)
 
--- which is one of the n kinds;
+-- The argument is one of the n kinds.
 pub record Named (n : ℕ) (before : List Part) (r : List ℕ) (w : Written) (rest : List ℕ) : Type 0 where
   pub begun : Begun before r w rest
   pub exists : w .argument ≤ n
 
--- behind its flags: "Flags in any number and order: `# 0 - space + , (`",
+-- "Flags in any number and order: `# 0 - space + , (`". (This list, like those of the letters, is written out here once more, apart from the parser's.)
 abbrev pub isFlag : ℕ → Bool
 isFlag b = has (ascii "#0- +,(") b
 
--- none of which offends against one before it: 8 "`0` after `-`", 9 "both `+` and space";
+-- A flag that offends against one before it: 8 "`0` after `-`", 9 "both `+` and space".
 pub data Clash (before : List ℕ) (b : ℕ) : ℕ → Type 0 where
   zero-after-minus : b ≡ code "0" → has before (code "-") ≡ true → Clash before b 8
   plus-after-space : b ≡ code "+" → has before (code " ") ≡ true → Clash before b 9
   space-after-plus : b ≡ code " " → has before (code "+") ≡ true → Clash before b 9
 
+-- No flag offends.
 abbrev pub Free : List ℕ → Type 0
 Free flags = (before : List ℕ) (b : ℕ) (after : List ℕ) (number : ℕ) → flags ≡ before ++ (b ∷ after) → Clash before b number → ⊥
 
+-- Behind its flags.
 pub record Flagged (n : ℕ) (before : List Part) (r : List ℕ) (w : Written) (rest : List ℕ) : Type 0 where
   pub named : Named n before r w (w .flags ++ rest)
   pub run : Run isFlag (w .flags) rest
   pub free : Free (w .flags)
 
--- behind its width: "digits not starting with 0, or absent" (a 0 there is a flag);
+-- Behind its width: "digits not starting with 0, or absent" (a 0 there is a flag).
 pub record Wide (n : ℕ) (before : List Part) (r : List ℕ) (w : Written) (rest : List ℕ) : Type 0 where
   pub flagged : Flagged n before r w (w .width ++ rest)
   pub run : Run isDigit (w .width) rest
   pub small : numberIn (w .width) ≤ largestNumber
 
--- behind its precision: "Then `.` with digits or with none";
+-- Behind its precision: "Then `.` with digits or with none".
 pub data PrecisionRun : Option (List ℕ) → List ℕ → Type 0 where
   absent : {rest : List ℕ} → begins (has (ascii ".")) rest ≡ false → PrecisionRun none rest
   given : {ds rest : List ℕ} → Run isDigit ds rest → numberIn ds ≤ largestNumber → PrecisionRun (some ds) rest
@@ -75,7 +77,7 @@ pub record Precise (n : ℕ) (before : List Part) (r : List ℕ) (w : Written) (
   pub wide : Wide n before r w (precisionBytes (w .precision) ++ rest)
   pub run : PrecisionRun (w .precision) rest
 
--- behind its letter: "b B h H s S c C d o x X e E f g G a A, or t or T and one of the 30 letters of `TimeFormat`, with `h` read as `b`";
+-- Behind its letter: "b B h H s S c C d o x X e E f g G a A, or t or T and one of the 30 letters of `TimeFormat`, with `h` read as `b`".
 abbrev pub letters : List ℕ
 letters = ascii "bBhHsScCdoxXeEfgGaA"
 
@@ -90,8 +92,8 @@ pub record Lettered (n : ℕ) (before : List Part) (r : List ℕ) (w : Written) 
   pub precise : Precise n before r w (w .letter ++ rest)
   pub letter : IsLetter (w .letter)
 
--- and the letter fits the kind, which is one of 1 to 7: "b needs 6; c, d, o, x need 1 to 4; e, f, g, a need 1 to 5; t and T fit none of our kinds; s and h take all. Capitals
--- likewise." The kind is the byte without a null mark.
+-- The letter fits the kind, which is one of 1 to 7, by its byte without a null mark: "b needs 6; c, d, o, x need 1 to 4; e, f, g, a need 1 to 5; t and T fit
+-- none of our kinds; s and h take all. Capitals likewise."
 abbrev pub kinds : List ℕ
 kinds = 1 ∷ 2 ∷ 3 ∷ 4 ∷ 5 ∷ 6 ∷ 7 ∷ []
 
@@ -124,7 +126,7 @@ pub data Stands (ks : List ℕ) (before : List Part) : List ℕ → Part → Lis
   is-element : {r rest : List ℕ} {w : Written} → Lettered (length ks) before r w rest → fitsBytes (w .letter) (kindAt ks (w .argument)) ≡ true
       → Stands ks before r (element w) rest
 
--- Parts that stand in the format s one behind the other from its first byte on, and what is left of it behind them.
+-- Parts that stand in the format s one behind the other from its first byte on, the last of them first, and what is left of it behind them.
 pub data Reads (s ks : List ℕ) : List Part → List ℕ → Type 0 where
   nothing : Reads s ks [] s
   one : {before : List Part} {r : List ℕ} {p : Part} {rest : List ℕ} → Reads s ks before r → Stands ks before r p rest → Reads s ks (p ∷ before) rest

@@ -41,16 +41,16 @@ pub data Part : Type 0 where
   newline : Part
   element : Written → Part
 
-abbrev pub bytesOf : Part → List ℕ
-bytesOf (text t) = t
-bytesOf percent = ascii "%%"
-bytesOf newline = ascii "%n"
-bytesOf (element w) = elementBytes w
+abbrev pub partBytes : Part → List ℕ
+partBytes (text t) = t
+partBytes percent = ascii "%%"
+partBytes newline = ascii "%n"
+partBytes (element w) = elementBytes w
 
 -- Parts that stand one behind the other, the last of them first: their bytes,
-unfoldable pub allBytes : List Part → List ℕ
-allBytes [] = []
-allBytes (p ∷ before) = allBytes before ++ bytesOf p
+unfoldable pub bytesBefore : List Part → List ℕ
+bytesBefore [] = []
+bytesBefore (p ∷ before) = bytesBefore before ++ partBytes p
 
 -- how many elements the running count has named,
 abbrev pub countedBy : Choice → ℕ → ℕ

@@ -1,12 +1,17 @@
 -- What reading finds, in the bytes of a format: what a cursor's numbers mean, and what each piece is. For laws alone.
 use Prim.Native.Nat.{ℕ, _+_, _≤_}
+use Prim.Native.Char.{code}
 use mathlib.Core.Path.{_≡_}
+use mathlib.Core.Bool.{true}
 use mathlib.Core.List.{List, [], _∷_, _++_}
 use mathlib.Core.Option.{Option, none, some}
 use lib.ListN.{length}
+use Rattle.writing.specs.Text.{ascii, has}
+use Rattle.numerals.specs.declared.Radix.the-variants.{Decimal, Octal, Hexadecimal}
 use Rattle.params.specs.declared.NumericParam.{NumericParam}
+use Rattle.conversions.specs.declared.ConversionType.{ConversionType}
+use Rattle.conversions.specs.declared.ConversionType.the-variants as C
 use Rattle.params.specs.declared.NumericParam.the-variants.{Literal, FromArgument}
-use Rattle.specifiers.specs.Flags.{flagsOf}
 use Rattle.specifiers.specs.Specifier.{letterFrom}
 use Rattle.specifiers.specs.declared.Element.{Element}
 use Rattle.specifiers.specs.declared.LetterTaken.the-variants as L
@@ -14,16 +19,17 @@ use Rattle.parsing.specs.Listed.{Placed}
 use Rattle.parsing.specs.declared.Cursor.{Cursor}
 use Rattle.parsing.specs.declared.Piece.{Piece}
 use Rattle.parsing.specs.declared.Piece.the-variants.{Fixed, Byte, Element as AnElement}
-use Rattle.grammar.specs.Runs.{numberIn}
-use Rattle.grammar.specs.Parts.{Written, Part, text, percent, newline, element, allBytes, countedIn, lastNamed}
+use Rattle.grammar.specs.Runs.{begins, numberIn}
+use Rattle.grammar.specs.Parts.{Written, Part, text, percent, newline, element, bytesBefore, countedIn, lastNamed}
 
--- A cursor behind the parts `before`: how many bytes and counted elements these are, and the argument that `%<` takes, 0 for none.
+-- The argument that `%<` takes, as a cursor has it: 0 for none.
 abbrev pub IsLast : Option ℕ → ℕ → Type 0
 IsLast none n = n ≡ 0
 IsLast (some a) n = (n ≡ a) × (1 ≤ a)
 
+-- A cursor behind the parts `before`: how many bytes and how many counted elements these are, and that argument.
 pub record At (before : List Part) (c : Cursor) : Type 0 where
-  pub place : c .at ≡ length (allBytes before)
+  pub place : c .at ≡ length (bytesBefore before)
   pub count : c .count ≡ countedIn before
   pub last : IsLast (lastNamed before) (c .last)
 
@@ -36,12 +42,40 @@ abbrev pub precisionRead : Option (List ℕ) → NumericParam
 precisionRead none = FromArgument
 precisionRead (some ds) = paramRead ds
 
--- An element holds what is written.
+-- The letters of each conversion, and the capitals among them.
+abbrev pub lettersOf : ConversionType → List ℕ
+lettersOf C.Boolean = ascii "bB"
+lettersOf C.HexHash = ascii "hH"
+lettersOf C.String = ascii "sS"
+lettersOf C.Char = ascii "cC"
+lettersOf (C.Integer Decimal) = ascii "d"
+lettersOf (C.Integer Octal) = ascii "o"
+lettersOf (C.Integer Hexadecimal) = ascii "xX"
+lettersOf C.DecimalFloat = ascii "eEfgG"
+lettersOf C.HexFloat = ascii "aA"
+lettersOf (C.Time t) = ascii "tT"
+
+abbrev pub capitals : List ℕ
+capitals = ascii "BHSCXEGAT"
+
+-- An element holds what is written: which flags occur, its numbers, the conversion of its letter and whether that is a capital. (`letter` is the parser's own
+-- reading of the letter, with the component behind t and T.)
 pub record ElementIs (e : Element) (w : Written) : Type 0 where
   pub argument : e .argument ≡ w .argument
-  pub flags : e .flags ≡ flagsOf (w .flags)
+  pub flags : e .flags
+      ≡ record {
+        alternate = has (w .flags) (code "#");
+        zero = has (w .flags) (code "0");
+        left = has (w .flags) (code "-");
+        space = has (w .flags) (code " ");
+        plus = has (w .flags) (code "+");
+        grouping = has (w .flags) (code ",");
+        parentheses = has (w .flags) (code "(");
+      }
   pub width : e .width ≡ paramRead (w .width)
   pub precision : e .precision ≡ precisionRead (w .precision)
+  pub conversion : begins (has (lettersOf (e .conversion))) (w .letter) ≡ true
+  pub upper : e .upper ≡ begins (has capitals) (w .letter)
   pub letter : letterFrom (w .letter) 0 ≡ L.Read (e .conversion) (e .upper) (length (w .letter))
 
 -- A piece that begins at the place `at`: text, the second `%` of `%%`, byte 10 for `%n`, or an element.
@@ -54,5 +88,5 @@ pub data PieceIs (at : ℕ) : Piece → Part → Type 0 where
 -- The pieces listed are the parts, each from its first byte to its last; the last of the parts stands first.
 pub data Lists : List Placed → List Part → Type 0 where
   nothing : Lists [] []
-  one : {ps : List Placed} {before : List Part} {x : Placed} {p : Part} → Lists ps before → PieceIs (length (allBytes before)) (x .piece) p
-      → x .from ≡ length (allBytes before) → x .to ≡ length (allBytes (p ∷ before)) → Lists (ps ++ (x ∷ [])) (p ∷ before)
+  one : {ps : List Placed} {before : List Part} {x : Placed} {p : Part} → Lists ps before → PieceIs (length (bytesBefore before)) (x .piece) p
+      → x .from ≡ length (bytesBefore before) → x .to ≡ length (bytesBefore (p ∷ before)) → Lists (ps ++ (x ∷ [])) (p ∷ before)

@@ -4,7 +4,7 @@ use mathlib.Core.Path.{_≡_}
 use mathlib.Core.List.{List, [], _∷_}
 use lib.ListN.{length}
 use Rattle.refusals.specs.Limits.{mostPieces}
-use Rattle.grammar.specs.Parts.{Part, allBytes}
+use Rattle.grammar.specs.Parts.{Part, bytesBefore}
 use Rattle.grammar.specs.Elements.{Reads}
 use Rattle.grammar.specs.Faults.{Fault}
 
@@ -16,6 +16,7 @@ pub record Whole (s ks : List ℕ) (parts : List Part) : Type 0 where
 -- The number and place that stop it: "a 513th piece begins", or an element's fault. "Place is the offset of the element's `%`, for 13 where that piece
 -- starts": so many bytes stand before it.
 pub data StopsReading (s ks : List ℕ) : ℕ → ℕ → Type 0 where
-  many : {before : List Part} {b : ℕ} {rest : List ℕ} → Reads s ks before (b ∷ rest) → length before ≡ mostPieces → StopsReading s ks 13 (length (allBytes before))
+  many : {before : List Part} {b : ℕ} {rest : List ℕ} → Reads s ks before (b ∷ rest) → length before ≡ mostPieces
+      → StopsReading s ks 13 (length (bytesBefore before))
   fault : {before : List Part} {r : List ℕ} {number : ℕ} → Reads s ks before r → length before < mostPieces → Fault ks before r number
-      → StopsReading s ks number (length (allBytes before))
+      → StopsReading s ks number (length (bytesBefore before))

@@ -1,8 +1,8 @@
 -- The kinds of a row are known, and the letter of a listed element stands before its end in the format. Assumes nothing.
 use mathlib.Core.Path.{_≡_, refl, sym, ap, subst, _∙_}
-use mathlib.Core.Bool.{Bool, true, false, _||_}
+use mathlib.Core.Bool.{Bool, true, false}
 use mathlib.Core.List.{List, [], _∷_, _++_, append-assoc, append-nil}
-use Prim.Native.Nat.{ℕ, suc, _+_, _-_, _%_, _≤_, _<_}
+use Prim.Native.Nat.{ℕ, _+_, _-_, _%_, _≤_, _<_}
 use Prim.Native.Char.{code}
 use native.Mathlib.Omega.{arith}
 use lib.Dec.{eqb}
@@ -10,7 +10,6 @@ use lib.ListN.{length, getD, length-append}
 use lib.Seq.{getD-at}
 use Rattle.writing.specs.Choose.{choose}
 use Rattle.writing.specs.Text.{has}
-use Rattle.writing.proofs.Choose.{by-test}
 use Rattle.conversions.specs.Letters.{timeOf, smallOf, capitalOf}
 use Rattle.conversions.specs.Kinds.{kindOf}
 use Rattle.conversions.specs.declared.ConversionType.{ConversionType}
@@ -20,18 +19,17 @@ use Rattle.conversions.specs.declared.Letter.{Letter}
 use Rattle.conversions.specs.declared.Letter.the-variants.{Conversion, NoConversion}
 use Rattle.conversions.specs.declared.TimeLetter.{TimeLetter}
 use Rattle.conversions.specs.declared.TimeLetter.the-variants.{Component, NoComponent}
-use Rattle.specifiers.specs.Specifier.{capitalTaken, oneLetter, timeLetter, secondLetter, letterFrom}
+use Rattle.specifiers.specs.Specifier.{oneLetter, timeLetter, secondLetter, letterFrom}
 use Rattle.specifiers.specs.declared.Element.{Element}
-use Rattle.specifiers.specs.declared.LetterTaken.{LetterTaken}
 use Rattle.specifiers.specs.declared.LetterTaken.the-variants as L
 use Rattle.parsing.specs.Check.{isKnown}
 use Rattle.parsing.specs.Listed.{Placed, placed, ended}
 use Rattle.parsing.specs.declared.Ended.the-variants.{Finished}
 use Rattle.parsing.specs.declared.Piece.{Piece}
-use Rattle.parsing.specs.declared.Piece.the-variants.{Fixed, Byte, Element as AnElement}
-use Rattle.grammar.specs.Parts.{Written, choiceBytes, precisionBytes, Part, element, elementBytes, bytesOf, allBytes}
-use Rattle.grammar.specs.Elements.{kinds, kindAt}
-use Rattle.grammar.specs.Pieces.{ElementIs, PieceIs}
+use Rattle.parsing.specs.declared.Piece.the-variants.{Element as AnElement}
+use Rattle.grammar.specs.Parts.{Written, choiceBytes, precisionBytes, Part, elementBytes, partBytes, bytesBefore}
+use Rattle.grammar.specs.Elements.{kinds}
+use Rattle.grammar.specs.Pieces.{PieceIs}
 use Rattle.grammar.specs.Pieces as Q
 use Rattle.grammar.proofs.Letters.{known-kind}
 use Rattle.grammar.proofs.Listed.{IsPart, nth-part}
@@ -101,8 +99,8 @@ last-byte w b e front tail =
 module _ (s ks : List ℕ) (known : KindsKnown ks) (end : ended s ks ≡ Finished) where
   pub letter-in : (i : ℕ) (d : Placed) → i < length (placed s ks) → (e : Element) → getD (placed s ks) i d .piece ≡ AnElement e
       → isTime (e .conversion) ≡ false → NamedBy (getD s (getD (placed s ks) i d .to - 1) 0) (e .conversion) (e .upper)
-  unfolding allBytes
-  letter-in i d h e q n = go (subst (λ (p : Piece). PieceIs (length (allBytes (x .before))) p (x .part)) q (x .is)) (x .to) whole
+  unfolding bytesBefore
+  letter-in i d h e q n = go (subst (λ (p : Piece). PieceIs (length (bytesBefore (x .before))) p (x .part)) q (x .is)) (x .to) whole
     where
       m : Made s ks known
       m = parts-of s ks known end
@@ -110,15 +108,15 @@ module _ (s ks : List ℕ) (known : KindsKnown ks) (end : ended s ks ≡ Finishe
       x : IsPart (getD (placed s ks) i d) (m .parts)
       x = nth-part (read-whole s ks known (m .whole) .lists) i d h
 
-      whole : s ≡ (allBytes (x .before) ++ bytesOf (x .part)) ++ x .tail
-      whole = reads-bytes (m .whole .reads) ∙ append-nil (allBytes (m .parts)) ∙ x .bytes
+      whole : s ≡ (bytesBefore (x .before) ++ partBytes (x .part)) ++ x .tail
+      whole = reads-bytes (m .whole .reads) ∙ append-nil (bytesBefore (m .parts)) ∙ x .bytes
 
-      go : {p : Part} {to : ℕ} → PieceIs (length (allBytes (x .before))) (AnElement e) p → to ≡ length (allBytes (x .before) ++ bytesOf p)
-          → s ≡ (allBytes (x .before) ++ bytesOf p) ++ x .tail → NamedBy (getD s (to - 1) 0) (e .conversion) (e .upper)
+      go : {p : Part} {to : ℕ} → PieceIs (length (bytesBefore (x .before))) (AnElement e) p → to ≡ length (bytesBefore (x .before) ++ partBytes p)
+          → s ≡ (bytesBefore (x .before) ++ partBytes p) ++ x .tail → NamedBy (getD s (to - 1) 0) (e .conversion) (e .upper)
       go {to = to} (Q.is-element {w = w} is) at all =
           let y = one-byte (e .conversion) (e .upper) (w .letter) (is .letter) n in
           let b : getD s (to - 1) 0 ≡ y .b =
           ap (λ (l : List ℕ). getD l (to - 1) 0) all
-          ∙ ap (λ (k : ℕ). getD ((allBytes (x .before) ++ elementBytes w) ++ x .tail) (k - 1) 0) at
-          ∙ last-byte w (y .b) (y .is) (allBytes (x .before)) (x .tail) in
+          ∙ ap (λ (k : ℕ). getD ((bytesBefore (x .before) ++ elementBytes w) ++ x .tail) (k - 1) 0) at
+          ∙ last-byte w (y .b) (y .is) (bytesBefore (x .before)) (x .tail) in
           subst (λ (l : ℕ). NamedBy l (e .conversion) (e .upper)) (sym b) (y .names)

@@ -3,3 +3,4 @@ pub mod Texts
 pub mod Accepted
 pub mod Letters
 pub mod Demand
+pub mod PartTexts

@@ -30,8 +30,9 @@ cutOut out ends k = take (getD ends k 0 - endBefore ends k) (drop (endBefore end
 abbrev pub pieceOf : List ℕ → List ℕ → ℕ → Placed
 pieceOf s row k = getD (placed s (kindsOf row)) k (record { piece = Fixed 0 0; from = 0; to = 0 })
 
--- What demand 3 says of one piece, which ends at the place `to` of the format: read by the reading rule, it denotes the value of the row under the argument that
--- the element takes. "The rule is fed the piece's bytes and the element's letter": the byte before the element's end, but for t and T, which are not read.
+-- What demand 3 says of one piece, which ends at the place `to` of the format: read by the reading rule, it denotes the value of the row under the argument
+-- that the element takes. "The rule is fed the piece's bytes and the element's letter": the byte before the element's end, but for t and T, which are not
+-- read.
 abbrev pub isTime : ConversionType → Bool
 isTime C.Boolean = false
 isTime C.HexHash = false

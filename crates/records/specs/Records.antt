@@ -8,7 +8,6 @@ use Rattle.writing.specs.Choose.{choose}
 use Rattle.words.specs.LittleEndian.{wordAt}
 use Rattle.records.specs.declared.End.{End}
 use Rattle.records.specs.declared.End.the-variants.{At, Outside}
-use Rattle.records.specs.declared.Stated.{Stated}
 use Rattle.records.specs.declared.Stated.the-variants.{Accepts, Prints, Refuses}
 use Rattle.records.specs.declared.Read.{Read}
 use Rattle.records.specs.declared.Read.the-variants.{Whole as AWhole, Broken as ABroken}

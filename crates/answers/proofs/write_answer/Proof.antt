@@ -1,6 +1,5 @@
 -- `answers::write_answer` meets its contract. Assumes nothing.
 use mathlib.Core.Path.{sym}
-use lib.ListN.{length}
 use lib.Seq.{take-all, length-take-le}
 use native.Mathlib.Omega.{arith}
 use Rattle.answers.specs.Answers.{mostInput, sheetText}

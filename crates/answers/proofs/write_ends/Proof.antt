@@ -1,7 +1,6 @@
 -- `answers::write_ends` meets its contract. Assumes nothing.
-use Prim.Native.Nat.{ℕ, suc, _+_, _-_, _*_, _≤_, _<_}
+use Prim.Native.Nat.{ℕ, _+_, _-_, _*_, _≤_, _<_}
 use mathlib.Core.Path.{_≡_, refl, sym, ap, _∙_}
-use mathlib.Core.List.{List}
 use lib.ListN.{length, getD, take, length-take, length-drop}
 use lib.Seq.{take-all}
 use native.Mathlib.Omega.{arith}

@@ -1,6 +1,5 @@
 -- `answers::write_parts` meets its contract. Assumes nothing.
 use Prim.Native.Nat.{_+_, _≤_, _<_}
-use mathlib.Core.Path.{_≡_}
 use lib.ListN.{length}
 use native.Mathlib.Omega.{arith}
 use Rattle.answers.specs.Answers.{lengthOf}

@@ -1,0 +1,71 @@
+-- The texts of a format's pieces are those of its parts: text as it stands, `%` for `%%`, byte 10 for `%n`, and of an element the value it takes. Assumes
+-- nothing.
+use mathlib.Core.Path.{_≡_, refl, sym, ap, subst, _∙_}
+use mathlib.Core.Bool.{true}
+use mathlib.Core.List.{List, [], _∷_, _++_, append-assoc, append-nil}
+use Prim.Native.Nat.{ℕ, _+_}
+use Prim.Native.Char.{code}
+use lib.ListN.{length, take, drop}
+use lib.Seq.{take-append-seam, drop-append-seam, drop-drop}
+use Rattle.writing.specs.Text.{ascii}
+use Rattle.specifiers.specs.declared.Element.{Element}
+use Rattle.parsing.specs.Listed.{Placed, placed}
+use Rattle.parsing.specs.declared.Piece.{Piece}
+use Rattle.grammar.specs.Parts.{Part, text, percent, newline, element, partBytes, bytesBefore}
+use Rattle.grammar.specs.Pieces.{PieceIs, Lists}
+use Rattle.grammar.specs.Pieces as Q
+use Rattle.grammar.specs.Readings.{Whole}
+use Rattle.grammar.proofs.Readings.{read-whole, reads-bytes}
+use Rattle.rows.specs.Row.{namedText, kindByteOf, valueOf, kindsOf, isRow}
+use Rattle.elements.specs.Texts.{elementText, textOf}
+use Rattle.pieces.specs.PieceTexts.{shownPiece, pieceText}
+use Rattle.outcomes.specs.PartTexts.{PartText, PartTexts, nothing, one}
+use Rattle.outcomes.specs.Printed.{textsOf, texts}
+use Rattle.outcomes.proofs.Letters.{row-kinds}
+
+-- some bytes behind others
+behind : (front x rest : List ℕ) → take (length x) (drop (length front) (front ++ (x ++ rest))) ≡ x
+behind front x rest = ap (take (length x)) (drop-append-seam front (x ++ rest)) ∙ take-append-seam x rest
+
+behind-one : (front : List ℕ) (a b : ℕ) (rest : List ℕ) → take 1 (drop (length front + 1) (front ++ (a ∷ b ∷ rest))) ≡ b ∷ []
+behind-one front a b rest =
+    ap (take 1) (sym (drop-drop 1 (length front) (front ++ (a ∷ b ∷ rest))) ∙ ap (drop 1) (drop-append-seam front (a ∷ b ∷ rest)))
+
+module _ (s row : List ℕ) where
+  texts-one : (ps : List Placed) (p : Placed) → textsOf s row (ps ++ (p ∷ [])) ≡ textsOf s row ps ++ (pieceText s row (p .piece) ∷ [])
+  unfolding textsOf
+  texts-one [] p = refl
+  texts-one (q ∷ ps) p = ap (λ (ts : List (List ℕ)). pieceText s row (q .piece) ∷ ts) (texts-one ps p)
+
+  part-text : {x : Piece} {p : Part} (before : List Part) (rest : List ℕ) → PieceIs (length (bytesBefore before)) x p
+      → s ≡ bytesBefore before ++ (partBytes p ++ rest) → PartText row p (pieceText s row x)
+  unfolding shownPiece
+  part-text before rest (Q.is-text {begin} {len} {t} e f) q =
+      ap (λ (n : ℕ). take n (drop begin s)) f
+      ∙ ap (λ (n : ℕ). take (length t) (drop n s)) e
+      ∙ ap (λ (l : List ℕ). take (length t) (drop (length (bytesBefore before)) l)) q
+      ∙ behind (bytesBefore before) t rest
+  part-text before rest (Q.is-percent {begin} {len} e f) q =
+      ap (λ (n : ℕ). take n (drop begin s)) f
+      ∙ ap (λ (n : ℕ). take 1 (drop n s)) e
+      ∙ ap (λ (l : List ℕ). take 1 (drop (length (bytesBefore before) + 1) l)) q
+      ∙ behind-one (bytesBefore before) (code "%") (code "%") rest
+  part-text before rest (Q.is-newline e) q = ap (λ (b : ℕ). b ∷ []) e
+  part-text before rest (Q.is-element {e} {w} is) q = record {
+    holds = e;
+    is = is;
+    shown = ap (λ (a : ℕ). textOf (elementText e (kindByteOf row a) (namedText row a) (valueOf row a))) (is .argument);
+  }
+
+  lists-texts : {ps : List Placed} {parts : List Part} (rest : List ℕ) → Lists ps parts → s ≡ bytesBefore parts ++ rest
+      → PartTexts row parts (textsOf s row ps)
+  unfolding textsOf bytesBefore
+  lists-texts rest Q.nothing q = nothing
+  lists-texts rest (Q.one {ps} {before} {x} {p} l is from to) q =
+      let whole : s ≡ bytesBefore before ++ (partBytes p ++ rest) = q ∙ append-assoc (bytesBefore before) (partBytes p) rest in
+      subst (PartTexts row (p ∷ before)) (sym (texts-one ps x)) (one (pieceText s row (x .piece)) (lists-texts (partBytes p ++ rest) l whole) (part-text before rest is whole))
+
+  -- Of a format made of parts.
+  pub part-texts : {parts : List Part} → isRow row ≡ true → Whole s (kindsOf row) parts → PartTexts row parts (texts s row)
+  unfolding texts
+  part-texts kept w = lists-texts [] (read-whole s (kindsOf row) (row-kinds row kept) w .lists) (reads-bytes (w .reads))

@@ -1,0 +1,29 @@
+-- What is printed, part by part of a format over its bytes. For laws alone.
+use Prim.Native.Nat.{ℕ}
+use mathlib.Core.Path.{_≡_}
+use mathlib.Core.List.{List, [], _∷_, _++_}
+use Rattle.writing.specs.Text.{ascii}
+use Rattle.specifiers.specs.declared.Element.{Element}
+use Rattle.grammar.specs.Parts.{Written, Part, text, percent, newline, element}
+use Rattle.grammar.specs.Pieces.{ElementIs}
+use Rattle.rows.specs.Row.{namedText, kindByteOf, valueOf}
+use Rattle.elements.specs.Texts.{elementText, textOf}
+
+-- An element as it is written prints the row's value under the argument that it takes.
+pub record ElementText (row : List ℕ) (w : Written) (t : List ℕ) : Type 0 where
+  pub holds : Element
+  pub is : ElementIs holds w
+  pub shown : t ≡ textOf (elementText holds (kindByteOf row (w .argument)) (namedText row (w .argument)) (valueOf row (w .argument)))
+
+-- Text is printed as it stands; "`%%` is a piece holding one `%`, `%n` a piece holding byte 10".
+abbrev pub PartText : List ℕ → Part → List ℕ → Type 0
+PartText row (text x) t = t ≡ x
+PartText row percent t = t ≡ ascii "%"
+PartText row newline t = t ≡ 10 ∷ []
+PartText row (element w) t = ElementText row w t
+
+-- The texts of parts in their order; the last of the parts stands first.
+pub data PartTexts (row : List ℕ) : List Part → List (List ℕ) → Type 0 where
+  nothing : PartTexts row [] []
+  one : {before : List Part} {p : Part} {ts : List (List ℕ)} (t : List ℕ) → PartTexts row before ts → PartText row p t
+      → PartTexts row (p ∷ before) (ts ++ (t ∷ []))
