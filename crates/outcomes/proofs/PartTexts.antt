@@ -1,25 +1,33 @@
 -- The texts of a format's pieces are those of its parts: text as it stands, `%` for `%%`, byte 10 for `%n`, and of an element the value it takes. Assumes
 -- nothing.
 use mathlib.Core.Path.{_≡_, refl, sym, ap, subst, _∙_}
-use mathlib.Core.Bool.{true}
+use mathlib.Core.Bool.{true, false}
 use mathlib.Core.List.{List, [], _∷_, _++_, append-assoc, append-nil}
-use Prim.Native.Nat.{ℕ, _+_}
+use Prim.Native.Nat.{ℕ, _+_, _-_, _<_}
+use native.Mathlib.Omega.{arith}
 use Prim.Native.Char.{code}
-use lib.ListN.{length, take, drop}
+use lib.ListN.{length, getD, take, drop}
 use lib.Seq.{take-append-seam, drop-append-seam, drop-drop}
-use Rattle.writing.specs.Text.{ascii}
+use Rattle.writing.specs.Text.{ascii, has}
+use Rattle.params.specs.declared.NumericParam.{NumericParam}
+use Rattle.conversions.specs.declared.ConversionType.{ConversionType}
+use Rattle.conversions.specs.declared.ConversionType.the-variants as C
 use Rattle.specifiers.specs.declared.Element.{Element}
 use Rattle.parsing.specs.Listed.{Placed, placed}
 use Rattle.parsing.specs.declared.Piece.{Piece}
+use Rattle.grammar.specs.Runs.{begins}
 use Rattle.grammar.specs.Parts.{Part, text, percent, newline, element, partBytes, bytesBefore}
-use Rattle.grammar.specs.Pieces.{PieceIs, Lists}
+use Rattle.grammar.specs.Pieces.{lettersOf, PieceIs, Lists}
 use Rattle.grammar.specs.Pieces as Q
 use Rattle.grammar.specs.Readings.{Whole}
+use Rattle.grammar.proofs.Listed.{IsPart}
 use Rattle.grammar.proofs.Readings.{read-whole, reads-bytes}
 use Rattle.rows.specs.Row.{namedText, kindByteOf, valueOf, kindsOf, isRow}
 use Rattle.elements.specs.Texts.{elementText, textOf}
+use Rattle.columns.specs.Columns.{ReadsBack}
 use Rattle.pieces.specs.PieceTexts.{shownPiece, pieceText}
-use Rattle.outcomes.specs.PartTexts.{PartText, PartTexts, nothing, one}
+use Rattle.outcomes.specs.Demand.{cutOut, pieceOf, isTime, DenotesValue, Demand3}
+use Rattle.outcomes.specs.PartTexts.{PartText, PartTexts, nothing, one, PartDenotes}
 use Rattle.outcomes.specs.Printed.{textsOf, texts}
 use Rattle.outcomes.proofs.Letters.{row-kinds}
 
@@ -69,3 +77,28 @@ module _ (s row : List ℕ) where
   pub part-texts : {parts : List Part} → isRow row ≡ true → Whole s (kindsOf row) parts → PartTexts row parts (texts s row)
   unfolding texts
   part-texts kept w = lists-texts [] (read-whole s (kindsOf row) (row-kinds row kept) w .lists) (reads-bytes (w .reads))
+
+-- What demand 3 says of a piece, it says of the part that the piece is.
+no-time : (c : ConversionType) (l : List ℕ) → begins (has (lettersOf c)) l ≡ true → begins (has (ascii "tT")) l ≡ false → isTime c ≡ false
+no-time C.Boolean l h n = refl
+no-time C.HexHash l h n = refl
+no-time C.String l h n = refl
+no-time C.Char l h n = refl
+no-time (C.Integer r) l h n = refl
+no-time C.DecimalFloat l h n = refl
+no-time C.HexFloat l h n = refl
+no-time (C.Time t) l h n = absurd (let q = sym n ∙ h in let z : _≡_ {A = ℕ} 0 1 = cc in omega arith)
+
+part-denotes : (s row : List ℕ) (to : ℕ) {at : ℕ} {x : Piece} {p : Part} (bytes : List ℕ) → PieceIs at x p → DenotesValue s row to x bytes
+    → PartDenotes s row to p bytes
+part-denotes s row to bytes (Q.is-text e f) d = tt
+part-denotes s row to bytes (Q.is-percent e f) d = tt
+part-denotes s row to bytes (Q.is-newline e) d = tt
+part-denotes s row to bytes (Q.is-element {e} {w} is) d = λ n.
+    subst (λ (p : NumericParam). ReadsBack (getD s (to - 1) 0) (kindByteOf row (w .argument)) (valueOf row (w .argument)) p bytes) (is .precision)
+    (subst (λ (a : ℕ). ReadsBack (getD s (to - 1) 0) (kindByteOf row a) (valueOf row a) (e .precision) bytes) (is .argument)
+    (d (no-time (e .conversion) (w .letter) (is .conversion) n)))
+
+pub columns-denote : (s row : List ℕ) {n k : ℕ} {out ends : List ℕ} → Demand3 s row n k out ends → {parts : List Part} (i : ℕ) → i < k
+    → (x : IsPart (pieceOf s row i) parts) → PartDenotes s row (pieceOf s row i .to) (x .part) (cutOut out ends i)
+columns-denote s row {out = out} {ends = ends} d i h x = part-denotes s row (pieceOf s row i .to) (cutOut out ends i) (x .is) (d .columns i h)

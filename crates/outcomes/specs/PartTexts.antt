@@ -1,13 +1,17 @@
 -- What is printed, part by part of a format over its bytes. For laws alone.
-use Prim.Native.Nat.{ℕ}
+use Prim.Native.Nat.{ℕ, _-_}
 use mathlib.Core.Path.{_≡_}
+use mathlib.Core.Bool.{false}
 use mathlib.Core.List.{List, [], _∷_, _++_}
-use Rattle.writing.specs.Text.{ascii}
+use lib.ListN.{getD}
+use Rattle.writing.specs.Text.{ascii, has}
 use Rattle.specifiers.specs.declared.Element.{Element}
+use Rattle.grammar.specs.Runs.{begins}
 use Rattle.grammar.specs.Parts.{Written, Part, text, percent, newline, element}
-use Rattle.grammar.specs.Pieces.{ElementIs}
+use Rattle.grammar.specs.Pieces.{precisionRead, ElementIs}
 use Rattle.rows.specs.Row.{namedText, kindByteOf, valueOf}
 use Rattle.elements.specs.Texts.{elementText, textOf}
+use Rattle.columns.specs.Columns.{ReadsBack}
 
 -- An element as it is written prints the row's value under the argument that it takes.
 pub record ElementText (row : List ℕ) (w : Written) (t : List ℕ) : Type 0 where
@@ -27,3 +31,12 @@ pub data PartTexts (row : List ℕ) : List Part → List (List ℕ) → Type 0 w
   nothing : PartTexts row [] []
   one : {before : List Part} {p : Part} {ts : List (List ℕ)} (t : List ℕ) → PartTexts row before ts → PartText row p t
       → PartTexts row (p ∷ before) (ts ++ (t ∷ []))
+
+-- Demand 3 of a part, which ends at the place `to` of the format: its bytes, read by its own letter, denote the row's value under its argument.
+abbrev pub PartDenotes : List ℕ → List ℕ → ℕ → Part → List ℕ → Type 0
+PartDenotes s row to (text x) bytes = Unit {0}
+PartDenotes s row to percent bytes = Unit {0}
+PartDenotes s row to newline bytes = Unit {0}
+PartDenotes s row to (element w) bytes =
+    begins (has (ascii "tT")) (w .letter) ≡ false
+    → ReadsBack (getD s (to - 1) 0) (kindByteOf row (w .argument)) (valueOf row (w .argument)) (precisionRead (w .precision)) bytes
