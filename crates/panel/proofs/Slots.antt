@@ -10,7 +10,7 @@ use Rattle.parsing.specs.Listed.{placed}
 use Rattle.rows.specs.Row.{kindsOf}
 use Rattle.rows.proofs.Rows.{AllBytes}
 use Rattle.outcomes.specs.Printed.{texts, printedText, endsFrom, printed, written}
-use Rattle.printing.specs.Passes.{Staged}
+use Rattle.printing.specs.Stages.{Staged}
 use Rattle.printing.proofs.Staged.{staged-text, staged-ends}
 use Rattle.outcomes.specs.Demand.{Demanded}
 use Rattle.outcomes.specs.declared.Outcome.{Outcome}

@@ -3,184 +3,20 @@
 // pushes the text of each element to a string; here one pass over the pieces finds every refusal and the text's length, and writes as far as it has
 // room; what is lent to a caller is written only once no refusal is left.
 use conversions::KindByte;
-use elements::Size;
 use outcomes::Outcome;
 use parsing::Checked;
 use parsing::Ended;
-use parsing::Piece;
-use parsing::Step;
+use passes::Tally;
+use passes::Walked;
 use rows::RowRead;
 ghost use mathlib.Core.Path.{_≡_};
-ghost use Prim.Native.Nat.{_+_, _≤_, _<_, max};
 ghost use lib.ListN.{length};
-ghost use Rattle.parsing.specs.Check.{argumentOf, isKnown, allKnown, checked};
+ghost use Rattle.parsing.specs.Check.{isKnown, allKnown, checked};
 ghost use Rattle.parsing.specs.declared.Ended.the-variants.{Finished};
-ghost use Rattle.elements.specs.Sizes.{SizeBelow};
-ghost use Rattle.pieces.specs.Ready.{Ready};
 ghost use Rattle.outcomes.specs.Printed.{texts, printedText, endsFrom, measured, ifRoom, printed, written};
-ghost use Rattle.pieces.specs.PieceTexts.{pieceText};
-ghost use Rattle.printing.specs.Passes.{TallyBelow, Walkable, Walk, Staged, StopsAt};
-ghost use Rattle.printing.specs.Passes.{behind, withEnd, added, counted, laidBehind, walkTexts, laidTexts, laidEnds, outcomeOf, checkedBy};
+ghost use Rattle.printing.specs.Stages.{Staged};
+ghost use Rattle.passes.specs.Passes.{outcomeOf, checkedBy};
 ghost use Rattle.outcomes.specs.Demand.{Demanded};
-
-// What a pass adds up: the length of the pieces so far, or the first of them that is not printed.
-pub enum Tally {
-    Length(u64),
-    Stops { number: u8, place: usize },
-}
-
-// What a pass comes to: where reading ended, what was added up, the pieces and the largest argument index.
-pub struct Walked {
-    pub end: Ended,
-    pub tally: Tally,
-    pub pieces: usize,
-    pub largest: usize,
-}
-
-// Where the next piece goes in so much room.
-fn place_behind(tally: Tally, room: usize) -> usize
-    ensures { λ r. ⌜ (r ≡ behind tally room) × (r ≤ room) ⌝ }
-{
-    let Tally::Length(n) = tally else {
-        return room;
-    };
-    if n < room as u64 {
-        return n as usize;
-    }
-    room
-}
-
-// One more size, of the k-th piece, which begins at a place, and its end. The first piece that is not printed stays.
-fn add_size(tally: Tally, size: Size, at: usize, k: usize, ends: &mut [u32]) -> Tally
-    requires { ⌜ (SizeBelow size) × (k < 512) × (TallyBelow k tally) ⌝ }
-    ensures { λ r. ⌜ (r ≡ added at size tally) × (TallyBelow (k + 1) r) × (now (ends .exit) ≡ withEnd k r (now (ends .entry))) ⌝ }
-{
-    let Tally::Length(n) = tally else {
-        return tally;
-    };
-    match size {
-        Size::Bytes(m) => {
-            let end = n + m;
-            if k < ends.len() {
-                ends[k] = (end % 4294967296) as u32;
-            }
-            Tally::Length(end)
-        }
-        Size::Stops(number) => Tally::Stops {
-            number: number,
-            place: at,
-        },
-    }
-}
-
-// One more piece, the k-th, which begins at a place: behind the pieces so far, in the output's part from there on.
-fn add_piece<'a>(
-    fmt: &'a [u8],
-    row: &'a [u8],
-    piece: Piece,
-    at: usize,
-    k: usize,
-    tally: Tally,
-    out: &mut [u8],
-    ends: &mut [u32],
-) -> Tally
-    requires { ⌜ (Ready (now fmt) (now row) piece) × (k < 512) × (TallyBelow k tally) ⌝ }
-    ensures { λ r. ⌜ (r ≡ counted (now (fmt .entry)) (now (row .entry)) piece at tally) × (TallyBelow (k + 1) r) ⌝ }
-    ensures { λ r. ⌜ now (out .exit) ≡ laidBehind tally (now (out .entry)) (pieceText (now (fmt .entry)) (now (row .entry)) piece) ⌝ }
-    ensures { λ r. ⌜ now (ends .exit) ≡ withEnd k r (now (ends .entry)) ⌝ }
-{
-    let from = place_behind(tally, out.len());
-    let size = pieces::put_piece(&mut out[from..], fmt, row, piece);
-    add_size(tally, size, at, k, ends)
-}
-
-// The argument that a piece uses, 0 for none.
-fn argument_of(piece: Piece) -> usize
-    ensures { λ r. ⌜ r ≡ argumentOf piece ⌝ }
-{
-    match piece {
-        Piece::Fixed { start: _, len: _ } => 0,
-        Piece::Byte(_) => 0,
-        Piece::Element(e) => e.argument,
-    }
-}
-
-fn larger(a: usize, b: usize) -> usize
-    ensures { λ r. ⌜ r ≡ max a b ⌝ }
-{
-    if a < b {
-        return b;
-    }
-    a
-}
-
-// A refusal handed upward with its place. It is asked of refusals alone.
-fn stopped(step: Step, at: usize) -> Ended
-    ensures { λ r. ⌜ StopsAt step at r ⌝ }
-{
-    let Step::Refused { number } = step else {
-        return Ended::Finished;
-    };
-    Ended::Stopped {
-        number: number,
-        place: at,
-    }
-}
-
-// A pass over the pieces. Where it prints, text and ends are written on the way as far as they have room.
-fn walk<'a>(
-    fmt: &'a [u8],
-    row: &'a [u8],
-    kinds: &'a [u8],
-    prints: bool,
-    out: &mut [u8],
-    ends: &mut [u32],
-) -> Walked
-    requires { ⌜ Walkable prints (now fmt) (now row) (now kinds) ⌝ }
-    ensures { λ r. ⌜ Walk (now (fmt .entry)) (now (row .entry)) (now (kinds .entry)) prints r ⌝ }
-    ensures { λ r. ⌜ now (out .exit) ≡ laidTexts (walkTexts prints (now (fmt .entry)) (now (row .entry)) (now (kinds .entry))) (now (out .entry)) ⌝ }
-    ensures { λ r. ⌜ now (ends .exit) ≡ laidEnds (walkTexts prints (now (fmt .entry)) (now (row .entry)) (now (kinds .entry))) (now (ends .entry)) ⌝ }
-{
-    let mut c = parsing::first_cursor();
-    let mut tally = Tally::Length(0);
-    let mut k: usize = 0;
-    let mut largest: usize = 0;
-    while c.at < fmt.len() {
-        let at = c.at;
-        if refusals::MOST_PIECES <= k {
-            return Walked {
-                end: Ended::Stopped {
-                    number: refusals::MANY_PIECES,
-                    place: at,
-                },
-                tally: tally,
-                pieces: k,
-                largest: largest,
-            };
-        }
-        let step = parsing::next_piece(fmt, kinds, c);
-        let Step::Found { piece, next } = step else {
-            return Walked {
-                end: stopped(step, at),
-                tally: tally,
-                pieces: k,
-                largest: largest,
-            };
-        };
-        if prints {
-            tally = add_piece(fmt, row, piece, at, k, tally, out, ends);
-        }
-        largest = larger(largest, argument_of(piece));
-        k = k + 1;
-        c = next;
-    }
-    Walked {
-        end: Ended::Finished,
-        tally: tally,
-        pieces: k,
-        largest: largest,
-    }
-}
 
 fn is_known(k: KindByte) -> bool
     ensures { λ r. ⌜ r ≡ isKnown k ⌝ }
@@ -254,7 +90,7 @@ pub fn check<'a>(fmt: &'a [u8], kinds: &'a [u8]) -> Checked
     }
     let mut text = [0u8; 1];
     let mut slots = [0u32; 1];
-    checked_of(walk(
+    checked_of(passes::walk(
         fmt,
         &fmt[..0],
         kinds,
@@ -320,7 +156,7 @@ pub fn stage<'a>(fmt: &'a [u8], row: &'a [u8], out: &mut [u8], ends: &mut [u32])
             place: 0,
         };
     };
-    outcome_of(walk(fmt, row, &row[6..6 + count], true, out, ends))
+    outcome_of(passes::walk(fmt, row, &row[6..6 + count], true, out, ends))
 }
 
 // The text's length and the number of pieces; nothing is written.

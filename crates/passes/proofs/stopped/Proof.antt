@@ -1,11 +1,11 @@
--- `printing::stopped` meets its contract. Assumes nothing.
+-- `passes::stopped` meets its contract. Assumes nothing.
 use mathlib.Core.Path.{refl, sym, subst}
 use Rattle.parsing.specs.declared.Ended.the-variants.{Stopped}
 use Rattle.parsing.specs.declared.Step.{Step}
-use Rattle.printing.specs.Passes.{StopsAt}
+use Rattle.passes.specs.Passes.{StopsAt}
 use borrow.Author.Needs.{needs}
-use Rattle.printing.proofs.stopped.Statement.{statement}
-use Rattle.printing.proofs.stopped.Tie as tie
+use Rattle.passes.proofs.stopped.Statement.{statement}
+use Rattle.passes.proofs.stopped.Tie as tie
 
 enum-known-step : tie.Need-enum-known-step
 enum-known-step c = search needs

@@ -1,15 +1,14 @@
--- What one pass over the pieces adds up and leaves, and what its steps do: for the contracts of `stage`, `walk` and the functions that these are made
--- of. Nothing in the promises of checking, measuring and printing speaks of these.
+-- What one pass over the pieces adds up and leaves, and what its steps do: for the contracts of `walk` and of the functions that it is made of. Nothing in
+-- the promises of checking, measuring and printing speaks of these.
 use Prim.Native.Nat.{ℕ, _+_, _-_, _*_, _%_, _^_, _≤_, min}
 use mathlib.Core.Path.{_≡_}
-use mathlib.Core.Bool.{Bool, true, false, _&&_}
+use mathlib.Core.Bool.{Bool, true, false}
 use mathlib.Core.List.{List, [], _∷_, _++_, map}
 use lib.Dec.{leb}
 use lib.ListN.{length, take, set}
 use Rattle.refusals.specs.Limits.{mostFormat}
 use Rattle.writing.specs.Choose.{choose}
 use Rattle.writing.specs.Laid.{laid}
-use Rattle.utf8.specs.Utf8.{wellFormed}
 use Rattle.parsing.specs.Listed.{Placed, placed, ended}
 use Rattle.parsing.specs.Check.{largestOf}
 use Rattle.parsing.specs.declared.Piece.{Piece}
@@ -27,9 +26,9 @@ use Rattle.elements.specs.declared.Size.the-variants as S
 use Rattle.pieces.specs.PieceTexts.{shownPiece}
 use Rattle.outcomes.specs.declared.Outcome.{Outcome}
 use Rattle.outcomes.specs.declared.Outcome.the-variants.{Accepted, Refused}
-use Rattle.printing.specs.declared.Tally.{Tally}
-use Rattle.printing.specs.declared.Tally.the-variants.{Length, Stops}
-use Rattle.printing.specs.declared.Walked.{Walked}
+use Rattle.passes.specs.declared.Tally.{Tally}
+use Rattle.passes.specs.declared.Tally.the-variants.{Length, Stops}
+use Rattle.passes.specs.declared.Walked.{Walked}
 use Rattle.outcomes.specs.Printed.{endsFrom}
 
 -- A pass, piece by piece: the length so far, or the first piece that is not printed.
@@ -108,16 +107,6 @@ laidTexts ts d = laid d (fitting (length d) ts)
 
 abbrev pub laidEnds : List (List ℕ) → List ℕ → List ℕ
 laidEnds ts e = laid e (lowEnds (length e) ts)
-
--- The texts that a call comes to: those of the pieces before one that is refused or not printed; none where 1, 2 or 14 stops the call.
-unfoldable pub stagedTexts : List ℕ → List ℕ → List (List ℕ)
-stagedTexts s row =
-    choose (leb (length s) mostFormat && wellFormed s && isRow row) (λ _. shownTexts s row (placed s (kindsOf row))) (λ _. [])
-
--- What `stage` leaves of d and e, of every format and row.
-pub record Staged (s row d e out ends : List ℕ) : Type 0 where
-  pub bytes : out ≡ laidTexts (stagedTexts s row) d
-  pub slots : ends ≡ laidEnds (stagedTexts s row) e
 
 -- Where the next piece goes: behind the length so far, or nowhere.
 abbrev pub behind : Tally → ℕ → ℕ

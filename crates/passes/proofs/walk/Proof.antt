@@ -1,4 +1,4 @@
--- `printing::walk` meets its contract. The loop's invariant: `Laying`, of the pieces so far; its measure is what is left of the format. Assumes nothing.
+-- `passes::walk` meets its contract. The loop's invariant: `Laying`, of the pieces so far; its measure is what is left of the format. Assumes nothing.
 use Prim.Native.Nat.{_-_, _<_, max}
 use mathlib.Core.Path.{_≡_, sym, ap, subst, _∙_}
 use mathlib.Core.Bool.{Bool, true}
@@ -10,13 +10,13 @@ use Rattle.parsing.specs.Pieces.{pieceAt}
 use Rattle.parsing.specs.declared.Step.{Step}
 use Rattle.parsing.specs.declared.Step.the-variants.{Found}
 use Rattle.parsing.proofs.Progress.{advanced}
-use Rattle.printing.specs.Passes.{Walkable, Passed, StopsAt}
-use Rattle.printing.proofs.Reached.{reached-full, reached-refused, reached-end}
-use Rattle.printing.proofs.Laying.{Laying, piece-ready, laying-as, laying-start, laying-read, laying-printed}
-use Rattle.printing.proofs.Laying.{walk-answer, walk-bytes, walk-slots}
+use Rattle.passes.specs.Passes.{Walkable, Passed, StopsAt}
+use Rattle.passes.proofs.Reached.{reached-full, reached-refused, reached-end}
+use Rattle.passes.proofs.Laying.{Laying, piece-ready, laying-as, laying-start, laying-read, laying-printed}
+use Rattle.passes.proofs.Laying.{walk-answer, walk-bytes, walk-slots}
 use borrow.Author.Needs.{needs}
-use Rattle.printing.proofs.walk.Statement.{statement}
-use Rattle.printing.proofs.walk.Tie as tie
+use Rattle.passes.proofs.walk.Statement.{statement}
+use Rattle.passes.proofs.walk.Tie as tie
 
 abbrev Inv-loop : tie.InvT-loop
 Inv-loop fmt row kinds prints out₀ ends₀ c₀ tally₀ k₀ largest₀ out ends c tally k largest =

@@ -1,11 +1,11 @@
--- `printing::add_piece` meets its contract. Assumes nothing.
+-- `passes::add_piece` meets its contract. Assumes nothing.
 use mathlib.Core.Path.{ap, _∙_}
 use Rattle.elements.specs.declared.Size.{Size}
-use Rattle.printing.specs.Passes.{added}
-use Rattle.printing.proofs.Behind.{put-behind}
+use Rattle.passes.specs.Passes.{added}
+use Rattle.passes.proofs.Behind.{put-behind}
 use borrow.Author.Needs.{needs}
-use Rattle.printing.proofs.add_piece.Statement.{statement}
-use Rattle.printing.proofs.add_piece.Tie as tie
+use Rattle.passes.proofs.add_piece.Statement.{statement}
+use Rattle.passes.proofs.add_piece.Tie as tie
 
 place-behind-requires : tie.Need-place-behind-requires
 place-behind-requires c κs = search needs

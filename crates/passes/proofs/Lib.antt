@@ -1,0 +1,7 @@
+mod Reached
+pub mod Tallies
+mod Behind
+pub mod Fitting
+pub mod Shown
+mod Next
+mod Laying
