@@ -16,9 +16,9 @@ use Rattle.conversions.specs.Letters.{smallOf, capitalOf}
 use Rattle.conversions.specs.Kinds.{kindOf, isIntegerKind, integerForm, fitsKind, printsAs}
 use Rattle.specifiers.specs.Flags.{leadingFlags, firstClash, flagsAt}
 use Rattle.specifiers.specs.Specifier.{precisionAt, letterAt, partsAt, specifierAt}
-use Rattle.parsing.specs.Pieces.{indexAt, argumentAt, elementAt, pieceAt}
+use Rattle.parsing.specs.Pieces.{textLength, indexAt, argumentAt, elementAt, pieceAt}
 use Rattle.parsing.specs.Listed.{placedFrom, endFrom, placed, ended}
-use Rattle.strings.specs.Cut.{backTo, cutLength, cutTo, cased}
+use Rattle.strings.specs.Cut.{capital, backTo, cutLength, cutTo, cased}
 use Rattle.strings.specs.Scalars.{utf8Of}
 use Rattle.rows.specs.Row.{namedText, entryAt, entriesFrom, isRow}
 use Rattle.elements.specs.Texts.{elementText}
@@ -31,7 +31,7 @@ unfolding mul ofBits toBits digitsIn placesWithin places digits numberFrom numbe
     leadingDigits numberTaken numberAt paramAt spaces headText tailText framed spare frameOf padded
     negative exponentField fractionField categoryOf scaledBits shortest rounded hexFloatOf exponentText hexFloatText nearestTo keptDigits
     leadOf wellFormedFrom wellFormed smallOf capitalOf kindOf isIntegerKind integerForm fitsKind printsAs
-    has leadingFlags firstClash flagsAt precisionAt letterAt partsAt specifierAt indexAt argumentAt elementAt pieceAt placedFrom endFrom placed ended
-    backTo cutLength cutTo cased utf8Of littleEndian wordAt namedText entryAt entriesFrom isRow
+    has leadingFlags firstClash flagsAt precisionAt letterAt partsAt specifierAt textLength indexAt argumentAt elementAt pieceAt placedFrom endFrom placed ended
+    capital backTo cutLength cutTo cased utf8Of littleEndian wordAt namedText entryAt entriesFrom isRow
     elementText shownPiece textsOf texts joined printedText firstStop measuredEnd measured
 theorem-cases = (tt, tt)
