@@ -71,7 +71,8 @@ module _ (s row : List ℕ) where
   lists-texts rest Q.nothing q = nothing
   lists-texts rest (Q.one {ps} {before} {x} {p} l is from to) q =
       let whole : s ≡ bytesBefore before ++ (partBytes p ++ rest) = q ∙ append-assoc (bytesBefore before) (partBytes p) rest in
-      subst (PartTexts row (p ∷ before)) (sym (texts-one ps x)) (one (pieceText s row (x .piece)) (lists-texts (partBytes p ++ rest) l whole) (part-text before rest is whole))
+      subst (PartTexts row (p ∷ before)) (sym (texts-one ps x))
+      (one (pieceText s row (x .piece)) (lists-texts (partBytes p ++ rest) l whole) (part-text before rest is whole))
 
   -- Of a format made of parts.
   pub part-texts : {parts : List Part} → isRow row ≡ true → Whole s (kindsOf row) parts → PartTexts row parts (texts s row)
