@@ -1,4 +1,4 @@
--- 01's table of cases, and one of ours, hold of the definitions. Assumes nothing.
+-- 01's table of cases, and rows of ours, hold of the definitions. Assumes nothing.
 use lib.Dec.{T}
 use lib.Ieee.{mul, ofBits, toBits}
 use Rattle.writing.specs.Text.{has}
@@ -24,9 +24,9 @@ use Rattle.rows.specs.Row.{namedText, entryAt, entriesFrom, isRow}
 use Rattle.elements.specs.Texts.{elementText}
 use Rattle.pieces.specs.PieceTexts.{shownPiece}
 use Rattle.outcomes.specs.Printed.{textsOf, texts, joined, printedText, firstStop, measuredEnd, measured}
-use Rattle.cases.specs.Cases.{cases, ours, allHold}
+use Rattle.cases.specs.Cases.{cases, ours, secondHolds, allHold}
 
-pub theorem-cases : T (allHold cases) × T (allHold ours)
+pub theorem-cases : T (allHold cases) × T (allHold ours) × T secondHolds
 unfolding mul ofBits toBits digitsIn placesWithin places digits numberFrom numberOf letterOf lettersOf numeral grouped intOf
     leadingDigits numberTaken numberAt paramAt spaces headText tailText framed spare frameOf padded
     negative exponentField fractionField categoryOf scaledBits shortest rounded hexFloatOf exponentText hexFloatText nearestTo keptDigits
@@ -34,4 +34,4 @@ unfolding mul ofBits toBits digitsIn placesWithin places digits numberFrom numbe
     has leadingFlags firstClash flagsAt precisionAt letterAt partsAt specifierAt textLength indexAt argumentAt elementAt pieceAt placedFrom endFrom placed ended
     capital backTo cutLength cutTo cased utf8Of littleEndian wordAt namedText entryAt entriesFrom isRow
     elementText shownPiece textsOf texts joined printedText firstStop measuredEnd measured
-theorem-cases = (tt, tt)
+theorem-cases = (tt, tt, tt)

@@ -1,5 +1,5 @@
--- 01, "Cases": "These rows are a table of the definitions, under a lone theorem".
-use Prim.Native.Nat.{ℕ, _-_, _*_, _^_}
+-- 01, "Cases": "These rows are a table of the definitions, under a lone theorem"; and rows of ours beside them.
+use Prim.Native.Nat.{ℕ, _+_, _-_, _*_, _^_}
 use Prim.Native.Char.{code}
 use Prim.Native.String.{String, [] as empty, _∷_ as _then_}
 use mathlib.Core.Bool.{Bool, true, false, _&&_}
@@ -55,17 +55,24 @@ cases =
     ∷ record { format = "%.2d"; kind = 131; value = 0; area = ""; text = "nu" }
     ∷ []
 
--- Rows of ours, of what no law reads back: marks, capitals, words, characters and texts.
+-- Rows of ours, of what reading back does not see: marks, prefixes, capitals, padding, words, characters and texts, and where in the row they stand.
 abbrev pub ours : List Case
 ours =
     record { format = "%+d"; kind = 3; value = 5; area = ""; text = "+5" }
     ∷ record { format = "% d"; kind = 3; value = 5; area = ""; text = " 5" }
     ∷ record { format = "%X"; kind = 1; value = minus 1; area = ""; text = "FF" }
     ∷ record { format = "%#x"; kind = 1; value = minus 1; area = ""; text = "0xff" }
+    ∷ record { format = "%#X"; kind = 1; value = minus 1; area = ""; text = "0XFF" }
+    ∷ record { format = "%#o"; kind = 3; value = 8; area = ""; text = "010" }
+    ∷ record { format = "%5d"; kind = 3; value = 5; area = ""; text = "    5" }
     ∷ record { format = "%A"; kind = 5; value = 0x3ff0_0000_0000_0000; area = ""; text = "0X1.0P0" }
+    ∷ record { format = "% a"; kind = 5; value = 0x3ff0_0000_0000_0000; area = ""; text = " 0x1.0p0" }
+    ∷ record { format = "%A"; kind = 5; value = 0x7ff8_0000_0000_0000; area = ""; text = "NAN" }
+    ∷ record { format = "%010A"; kind = 5; value = 0x7ff0_0000_0000_0000; area = ""; text = "  INFINITY" }
     ∷ record { format = "%+a"; kind = 5; value = 0x7ff0_0000_0000_0000; area = ""; text = "+Infinity" }
     ∷ record { format = "%a"; kind = 5; value = 0x7ff8_0000_0000_0000; area = ""; text = "NaN" }
     ∷ record { format = "%s"; kind = 7; value = 5 * 2 ^ 32; area = "north"; text = "north" }
+    ∷ record { format = "%07s"; kind = 7; value = 5 * 2 ^ 32 + 2; area = "a north gate"; text = "  north" }
     ∷ record { format = "%-7S"; kind = 7; value = 5 * 2 ^ 32; area = "north"; text = "NORTH  " }
     ∷ record { format = "%s"; kind = 3; value = minus 42; area = ""; text = "-42" }
     ∷ record { format = "%S"; kind = 131; value = 0; area = ""; text = "NULL" }
@@ -87,6 +94,13 @@ caseRow c = rowWith (c .kind) (c .value) (utf8 (c .area))
 
 abbrev pub holds : Case → Bool
 holds c = prints (measured (utf8 (c .format)) (caseRow c)) (printedText (utf8 (c .format)) (caseRow c)) (utf8 (c .text))
+
+-- A row of two Int32: `%2$d` prints the second.
+abbrev pub rowOfTwo : ℕ → ℕ → List ℕ
+rowOfTwo a b = bytesOf 2 2 ++ (bytesOf 4 0 ++ (3 ∷ 3 ∷ (bytesOf 8 a ++ bytesOf 8 b)))
+
+abbrev pub secondHolds : Bool
+secondHolds = prints (measured (utf8 "%2$d") (rowOfTwo 5 7)) (printedText (utf8 "%2$d") (rowOfTwo 5 7)) (utf8 "7")
 
 abbrev pub allHold : List Case → Bool
 allHold [] = true

@@ -1,5 +1,5 @@
--- What checking says of a format and the kinds of a row, without their null marks, is what measuring does with the row, as far as reading goes: the same
--- refusals, and the same number of pieces. Assumes nothing.
+-- Of a row that keeps its layout: what checking says of a format and the row's kinds, without their null marks, is what measuring does with the row, as far as
+-- reading goes: the same refusals, and the same number of pieces. Assumes nothing.
 use mathlib.Core.Path.{_≡_, refl, sym, ap, subst, _∙_}
 use mathlib.Core.Bool.{Bool, true, false, _&&_}
 use mathlib.Core.List.{List, [], _∷_}

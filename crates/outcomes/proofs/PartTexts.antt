@@ -79,7 +79,7 @@ module _ (s row : List ℕ) where
   unfolding texts
   part-texts kept w = lists-texts [] (read-whole s (kindsOf row) (row-kinds row kept) w .lists) (reads-bytes (w .reads))
 
--- What demand 3 says of a piece, it says of the part that the piece is.
+-- What demand 3 says of a piece, it says of a part that the piece is (`IsPart`). That this part is the i-th that stands in the format is not said here.
 no-time : (c : ConversionType) (l : List ℕ) → begins (has (lettersOf c)) l ≡ true → begins (has (ascii "tT")) l ≡ false → isTime c ≡ false
 no-time C.Boolean l h n = refl
 no-time C.HexHash l h n = refl

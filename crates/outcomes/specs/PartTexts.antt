@@ -32,7 +32,7 @@ pub data PartTexts (row : List ℕ) : List Part → List (List ℕ) → Type 0 w
   one : {before : List Part} {p : Part} {ts : List (List ℕ)} (t : List ℕ) → PartTexts row before ts → PartText row p t
       → PartTexts row (p ∷ before) (ts ++ (t ∷ []))
 
--- Demand 3 of a part, which ends at the place `to` of the format: its bytes, read by its own letter, denote the row's value under its argument.
+-- Demand 3 of a part which ends at the place `to` of the format s: its bytes, read by the byte of s before `to`, denote the row's value under its argument.
 abbrev pub PartDenotes : List ℕ → List ℕ → ℕ → Part → List ℕ → Type 0
 PartDenotes s row to (text x) bytes = Unit {0}
 PartDenotes s row to percent bytes = Unit {0}
