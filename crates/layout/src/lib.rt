@@ -7,7 +7,7 @@ ghost use Prim.Native.Nat.{ℕ, _+_, _^_, _≤_, _<_};
 ghost use lib.Dec.{leb};
 ghost use lib.ListN.{length};
 ghost use Rattle.writing.specs.Writers.{Wrote};
-ghost use Rattle.layout.specs.Frame.{opening, closing, prefixText, headText, tailText, spare, frameOf};
+ghost use Rattle.layout.specs.Frame.{opening, closing, prefixText, marks, headText, tailText, spare, frameOf};
 ghost use Rattle.layout.specs.Short.{StandsFor};
 ghost use Rattle.layout.specs.Around.{around, FramePut};
 ghost use Rattle.layout.specs.Bare.{isBare};
@@ -181,6 +181,15 @@ fn frame_len(f: Frame) -> u64
     runs + all_marks_len(mark, prefix)
 }
 
+// Writes mark and prefix. Answers their length.
+fn write_marks(out: &mut [u8], mark: Mark, prefix: Prefix) -> usize
+    requires { ⌜ length (marks mark prefix) ≤ length (now out) ⌝ }
+    ensures { λ r. ⌜ Wrote (now (out .entry)) (marks mark prefix) r (now (out .exit)) ⌝ }
+{
+    let a = write_short(out, opening_text(mark));
+    a + write_short(&mut out[a..], prefix_text(prefix))
+}
+
 // Writes what stands in front of the text. Answers its length.
 fn write_head(out: &mut [u8], f: Frame) -> usize
     requires { ⌜ length (headText f) ≤ length (now out) ⌝ }
@@ -191,9 +200,8 @@ fn write_head(out: &mut [u8], f: Frame) -> usize
     let before = f.before as usize;
     let zeros = f.zeros as usize;
     let a = writing::write_fill(out, before, b' ');
-    let b = a + write_short(&mut out[a..], opening_text(mark));
-    let c = b + write_short(&mut out[b..], prefix_text(prefix));
-    c + writing::write_fill(&mut out[c..], zeros, b'0')
+    let b = a + write_marks(&mut out[a..], mark, prefix);
+    b + writing::write_fill(&mut out[b..], zeros, b'0')
 }
 
 // Writes what stands behind the text. Answers its length.

@@ -1,6 +1,6 @@
 -- `layout::frame_len` meets its contract. Assumes nothing.
 use native.Mathlib.Omega.{arith}
-use Rattle.layout.proofs.Lengths.{head-length, tail-length}
+use Rattle.layout.proofs.Lengths.{marks-length, head-length, tail-length}
 use borrow.Author.Needs.{needs}
 use Rattle.layout.proofs.frame_len.Statement.{statement}
 use Rattle.layout.proofs.frame_len.Tie as tie
@@ -8,7 +8,7 @@ use Rattle.layout.proofs.frame_len.Tie as tie
 returns : tie.Need-returns
 returns c =
     let f = c .before .before .before .before .args .f in
-    omega (arith, head-length f, tail-length f)
+    omega (arith, marks-length (f .mark) (f .prefix), head-length f, tail-length f)
 
 pub frame-len-spec : {M : Type 1} → statement M
 frame-len-spec =

@@ -2,17 +2,17 @@
 use Prim.Native.Nat.{ℕ}
 use Prim.Native.Char.{code}
 use mathlib.Core.Path.{refl}
-use mathlib.Core.List.{List, append-assoc}
+use mathlib.Core.List.{List}
 use lib.ListN.{replicate, length-take, length-drop}
 use native.Mathlib.Omega.{arith}
-use Rattle.writing.proofs.Chained.{wrote-fill, wrote-two, wrote-three}
-use Rattle.layout.specs.Frame.{opening, prefixText, spaces, headText}
+use Rattle.writing.proofs.Chained.{wrote-fill, wrote-three}
+use Rattle.layout.specs.Frame.{marks, spaces, headText}
 use Rattle.layout.proofs.Lengths.{head-length}
 use borrow.Author.Needs.{needs}
 use Rattle.layout.proofs.write_head.Statement.{statement}
 use Rattle.layout.proofs.write_head.Tie as tie
 
--- the start, from the places before the spaces, and behind the spaces, the mark, the prefix and the zeros
+-- the start, from the places before the spaces, and behind the spaces, mark and prefix, and the zeros
 abbrev start₀ : tie.After-write-fill-arg → tie.Start
 start₀ c = c .before .before .before .before
 
@@ -20,34 +20,25 @@ abbrev start₁ : tie.After-slice-known2 → tie.Start
 start₁ c = start₀ (c .before .before .before)
 
 abbrev start₂ : tie.After-slice-known3 → tie.Start
-start₂ c = start₁ (c .before .before .before .before .before)
+start₂ c = start₁ (c .before .before .before .before)
 
 abbrev start₃ : tie.After-slice-known4 → tie.Start
-start₃ c = start₂ (c .before .before .before .before .before)
-
-abbrev start₄ : tie.After-slice-known5 → tie.Start
-start₄ c = start₃ (c .before .before .before .before)
+start₃ c = start₂ (c .before .before .before .before)
 
 returns : tie.Need-returns
 unfolding headText spaces
 returns c =
-    let wrote₄ = c .before .before in
-    let wrote₃ = wrote₄ .before .before .before .before in
-    let prefixed = wrote₃ .before in
-    let wrote₂ = prefixed .before .before .before .before in
-    let opened = wrote₂ .before in
-    let wrote₁ = opened .before .before .before .before in
-    let a = start₄ c .args in
+    let wrote₃ = c .before .before in
+    let wrote₂ = wrote₃ .before .before .before .before in
+    let wrote₁ = wrote₂ .before .before .before .before in
+    let a = start₃ c .args in
     let f = a .f in
     let zeros : List ℕ = replicate (f .zeros) (code "0") in
-    rw append-assoc at
-    (wrote-two (a .out .now) _ zeros _ _ _ _
-    (wrote-three (a .out .now) (spaces (f .before)) (opening (f .mark)) (prefixText (f .prefix)) _ _ _ _ _ _ _
+    wrote-three (a .out .now) (spaces (f .before)) (marks (f .mark) (f .prefix)) zeros _ _ _ _ _ _ _
     (wrote-fill _ _ _ _ _ (wrote₁ .write-fill .ensures))
-    (wrote₂ .write-short .ensures .1 _ (opened .opening-text .ensures))
+    (wrote₂ .write-marks .ensures)
     refl
-    (wrote₃ .write-short2 .ensures .1 _ (prefixed .prefix-text .ensures)))
-    (wrote-fill _ _ _ _ _ (wrote₄ .write-fill2 .ensures)))
+    (wrote-fill _ _ _ _ _ (wrote₃ .write-fill2 .ensures))
 
 pub write-head-spec : {M : Type 1} → statement M
 write-head-spec =
@@ -59,19 +50,12 @@ write-head-spec =
     (λ c. omega (arith, head-length (start₁ c .args .f)))
     (λ c. omega (arith, head-length (start₁ c .args .f)))
     (λ c. search needs)
-    (λ c κs. search needs)
-    (λ c κs. simp (length-take, length-drop) (omega (arith, head-length (start₁ (c .before .before) .args .f))))
+    (λ c κs. simp (length-take, length-drop) (omega (arith, head-length (start₁ (c .before) .args .f))))
     (λ c. omega (arith, head-length (start₂ c .args .f)))
     (λ c. omega (arith, head-length (start₂ c .args .f)))
     (λ c. omega (arith, head-length (start₂ c .args .f)))
     (λ c. search needs)
-    (λ c κs. search needs)
-    (λ c κs. simp (length-take, length-drop) (omega (arith, head-length (start₂ (c .before .before) .args .f))))
+    (λ c κs. simp (length-take, length-drop) (omega (arith, head-length (start₂ (c .before) .args .f))))
     (λ c. omega (arith, head-length (start₃ c .args .f)))
-    (λ c. omega (arith, head-length (start₃ c .args .f)))
-    (λ c. omega (arith, head-length (start₃ c .args .f)))
-    (λ c. search needs)
-    (λ c κs. simp (length-take, length-drop) (omega (arith, head-length (start₃ (c .before) .args .f))))
-    (λ c. omega (arith, head-length (start₄ c .args .f)))
     (λ c. search needs)
     returns)
