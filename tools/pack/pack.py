@@ -2,9 +2,11 @@
 """Packs a format and values into the input of the program `sheet`, on standard output."""
 
 import os
-import re
 import struct
 import sys
+
+from inputs import BadInput, bytes_of, command_words, read_format, tell
+from values import pack_row
 
 USAGE = "usage: pack.py [--] FORMAT [KIND=VALUE ...] | pack.py --format-file FILE [KIND=VALUE ...] | pack.py --help\n"
 
@@ -34,150 +36,37 @@ Examples:
 """
 
 MOST_FORMAT = 65535
-MOST_VALUES = 64
-MOST_TEXT = 32768
-
-INTEGER_BITS = {"int8": 8, "int16": 16, "int32": 32, "int64": 64}
-KIND = {"int8": 1, "int16": 2, "int32": 3, "int64": 4, "f64": 5, "bool": 6, "text": 7}
-NULL_MARK = 128
-
-INTEGER = re.compile(r"[+-]?(0[xX][0-9a-fA-F]+|[0-9]+)")
-DECIMAL = re.compile(r"[+-]?([0-9]+\.?[0-9]*|\.[0-9]+)([eE][+-]?[0-9]+)?")
-HEX_FLOAT = re.compile(r"[+-]?0[xX]([0-9a-fA-F]+\.?[0-9a-fA-F]*|\.[0-9a-fA-F]+)([pP][+-]?[0-9]+)?")
-BITS = re.compile(r"bits:0[xX][0-9a-fA-F]+")
-FLOAT_WORDS = {"nan": 0x7FF8000000000000, "inf": 0x7FF0000000000000, "-inf": 0xFFF0000000000000}
-
-
-class CannotPack(Exception):
-    """Its message says what cannot be packed, and why."""
-
-
-def integer_value(kind, word):
-    """The 8 bytes of an integer, sign-extended."""
-    if not INTEGER.fullmatch(word):
-        raise CannotPack(f"{kind}={word}: not a whole number, decimal or 0x..")
-    digits = word.lstrip("+-")
-    base = 16 if digits[:2] in ("0x", "0X") else 10
-    if base == 10:
-        digits = digits.lstrip("0")[:20] or "0"  # 20 digits are out of every range
-    value = -int(digits, base) if word.startswith("-") else int(digits, base)
-    half = 1 << INTEGER_BITS[kind] - 1
-    if not -half <= value < half:
-        raise CannotPack(f"{kind}={word}: out of range, which is {-half} to {half - 1}")
-    return struct.pack("<q", value)
-
-
-def float_value(word):
-    """The 8 bytes of a binary64."""
-    if word in FLOAT_WORDS:
-        return struct.pack("<Q", FLOAT_WORDS[word])
-    if BITS.fullmatch(word):
-        bits = int(word[len("bits:"):], 16)
-        if bits >> 64:
-            raise CannotPack(f"f64={word}: out of range, more than 64 bits")
-        return struct.pack("<Q", bits)
-    try:
-        if HEX_FLOAT.fullmatch(word):
-            value = float.fromhex(word)
-        elif DECIMAL.fullmatch(word):
-            value = float(word)
-        else:
-            raise CannotPack(f"f64={word}: not a decimal or hexadecimal float, nan, inf, -inf or bits:0x..")
-    except OverflowError:
-        value = float("inf")
-    if value in (float("inf"), float("-inf")):
-        raise CannotPack(f"f64={word}: out of range; infinity is written inf or -inf")
-    return struct.pack("<d", value)
-
-
-def bool_value(word):
-    """The 8 bytes of a Boolean."""
-    if word not in ("true", "false"):
-        raise CannotPack(f"bool={word}: not true, false or null")
-    return struct.pack("<Q", word == "true")
-
-
-def split_value(word):
-    """The kind's name and the bytes behind the first `=` of a word KIND=VALUE."""
-    name, equals, rest = word.partition(b"=")
-    kind = os.fsdecode(name)
-    if not equals:
-        raise CannotPack(f"{kind}: a value is written KIND=VALUE")
-    if kind not in KIND:
-        raise CannotPack(f"{kind}: no such kind; there are {' '.join(KIND)}")
-    return kind, rest
-
-
-def pack_value(kind, rest, offset):
-    """The kind byte, the 8 bytes of the value, and the text that stands at the offset."""
-    if kind == "text":
-        return KIND[kind], struct.pack("<II", offset, len(rest)), rest
-    word = os.fsdecode(rest)
-    if word == "null":
-        if kind == "f64":
-            raise CannotPack("f64=null: only integers and Booleans can be null")
-        return KIND[kind] + NULL_MARK, bytes(8), b""
-    if kind == "f64":
-        return KIND[kind], float_value(word), b""
-    if kind == "bool":
-        return KIND[kind], bool_value(word), b""
-    return KIND[kind], integer_value(kind, word), b""
-
-
-def pack_row(words):
-    """The row of values: their count, the text's length, the kind bytes, the values, the text."""
-    if len(words) > MOST_VALUES:
-        raise CannotPack(f"{len(words)} values: more than {MOST_VALUES}")
-    kinds, values, text = bytearray(), bytearray(), bytearray()
-    for word in words:
-        kind, rest = split_value(word)
-        number, value, part = pack_value(kind, rest, len(text))
-        kinds.append(number)
-        values += value
-        text += part
-    if len(text) > MOST_TEXT:
-        raise CannotPack(f"text of {len(text)} bytes in all: more than {MOST_TEXT}")
-    return struct.pack("<HI", len(words), len(text)) + kinds + values + text
-
 
 def pack(form, words):
-    """The input of `sheet` for a format and the words KIND=VALUE, all of them bytes."""
+    """The input of `sheet` for a format, bytes, and the words KIND=VALUE."""
     if len(form) > MOST_FORMAT:
-        raise CannotPack(f"format of {len(form)} bytes: more than {MOST_FORMAT}")
+        raise BadInput(f"format of {len(form)} bytes: more than {MOST_FORMAT}")
     return struct.pack("<H", len(form)) + form + pack_row(words)
 
 
-def read_format(name):
-    try:
-        with open(name, "rb") as file:
-            return file.read()
-    except OSError as error:
-        raise CannotPack(f"{os.fsdecode(name)}: {error.strerror}") from error
-
-
 def command(words):
-    """What the command line `words`, bytes, asks for: the bytes to write."""
-    if words[:1] in ([b"--help"], [b"-h"]):
+    """What the command line asks for: the bytes to write."""
+    if words[:1] in (["--help"], ["-h"]):
         return HELP.encode()
-    if words[:1] == [b"--format-file"]:
+    if words[:1] == ["--format-file"]:
         if len(words) < 2:
-            raise CannotPack("--format-file: the file's name is missing")
+            raise BadInput("--format-file: the file's name is missing")
         return pack(read_format(words[1]), words[2:])
-    if words[:1] == [b"--"]:
+    if words[:1] == ["--"]:
         words = words[1:]
-    elif words and words[0].startswith(b"--"):
-        raise CannotPack(f"{os.fsdecode(words[0])}: no such option; write -- in front of a format that begins so")
+    elif words and words[0].startswith("--"):
+        raise BadInput(f"{words[0]}: no such option; write -- in front of a format that begins so")
     if not words:
-        raise CannotPack("the format is missing")
-    return pack(words[0], words[1:])
+        raise BadInput("the format is missing")
+    return pack(bytes_of(words[0]), words[1:])
 
 
 def main():
-    words = [os.fsencode(word) for word in sys.argv[1:]]
+    words = command_words()
     try:
         data = command(words)
-    except CannotPack as error:
-        sys.stderr.write("pack.py: " + str(error).encode("utf-8", "backslashreplace").decode() + "\n")
+    except BadInput as error:
+        tell("pack.py", error)
         if not words:
             sys.stderr.write(USAGE)
         return 2

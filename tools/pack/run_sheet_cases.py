@@ -14,8 +14,9 @@ import shlex
 import subprocess
 import sys
 
+import pack
+
 HERE = os.path.dirname(os.path.abspath(__file__))
-PACK = os.path.join(HERE, "pack.py")
 
 ESCAPE = re.compile(rb"\\(?:n|\\|x[0-9a-f]{2})")
 REPEAT = re.compile(rb"\{([^{}]*)\*([0-9]+)\}")
@@ -45,7 +46,7 @@ def input_of(case):
     if words[0] == b"raw" and len(words) == 2:
         return words[1]
     if words[0] == b"pack":
-        return subprocess.run([sys.executable, PACK, *words[1:]], stdout=subprocess.PIPE, check=True).stdout
+        return pack.command([word.decode("utf-8", "surrogateescape") for word in words[1:]])
     raise ValueError(f"no case: {case}")
 
 

@@ -1,0 +1,133 @@
+"""The C library of panel/panel.h from Python; proved and built first where that has not been done."""
+
+import ctypes
+import os
+import re
+import shutil
+import subprocess
+import time
+
+from inputs import BadInput, tell
+from progress import Progress
+
+ROOT = os.path.dirname(os.path.dirname(os.path.dirname(os.path.realpath(__file__))))
+SHARED = os.path.join(ROOT, "target", "panel", "libpanel.so")
+
+MOST_OUTPUT = 1 << 26  # what is lent at most for a line; a longer text is refused by the library with 17
+ENDS_BYTES = 4 * 512  # no format has more pieces
+
+
+class Checked(ctypes.Structure):
+    _fields_ = [(name, ctypes.c_uint64) for name in ("number", "place", "pieces", "largest")]
+
+
+class Printed(ctypes.Structure):
+    _fields_ = [(name, ctypes.c_uint64) for name in ("number", "place", "length", "pieces")]
+
+
+class Refused(Exception):
+    """The library refused a call, with this number and place."""
+
+    def __init__(self, answer):
+        super().__init__(answer.number, answer.place)
+        self.number, self.place = answer.number, answer.place
+
+
+def newest_source():
+    """When the code of the library was last changed."""
+    crates = os.path.join(ROOT, "crates")
+    newest = os.stat(os.path.join(ROOT, "crates.txt")).st_mtime
+    for crate in os.scandir(crates):
+        folder = os.path.join(crate.path, "src")
+        if os.path.isdir(folder):
+            newest = max([newest] + [entry.stat().st_mtime for entry in os.scandir(folder)])
+    return newest
+
+
+def is_built():
+    try:
+        return os.stat(SHARED).st_mtime >= newest_source()
+    except FileNotFoundError:
+        return False
+
+
+def crates_to_prove():
+    """How many crates the library is made of."""
+    with open(os.path.join(ROOT, "crates.txt"), encoding="utf-8") as file:
+        needs = next(line for line in file if line.startswith("panel:"))
+    return len([name for name in needs.split()[1:] if os.path.isdir(os.path.join(ROOT, "crates", name))]) + 1
+
+
+def run_step(words, on_line):
+    """Runs a command of the repository; `on_line` sees each line that it says."""
+    if not shutil.which(words[0]) and not os.path.exists(os.path.join(ROOT, words[0])):
+        raise BadInput(f"the library is not built, and `{words[0]}` is not on this machine to build it")
+    said = []
+    with subprocess.Popen(words, cwd=ROOT, stdout=subprocess.PIPE, stderr=subprocess.STDOUT, text=True) as process:
+        for line in process.stdout:
+            said.append(line)
+            on_line(line)
+    if process.returncode != 0:
+        raise BadInput(f"the library could not be built; `{' '.join(words)}` said\n" + "".join(said[-12:]).rstrip())
+
+
+def build():
+    """Proves and builds the library, and says how far it is."""
+    tell("line", "the library is not built yet: proving and building it, which takes some minutes the first time")
+    total = crates_to_prove()
+    proved = set()
+    progress = Progress()
+
+    def on_line(line):
+        found = re.match(r"rt: ([a-z0-9_]+) proved", line)
+        if found:
+            proved.add(found.group(1))
+            seconds = time.monotonic() - progress.begun
+            progress.show(f"line: proved {len(proved)} of {total}, {found.group(1)}; {seconds:.0f} s")
+
+    run_step(["rt", "staticlib", "panel"], on_line)
+    run_step(["panel/shared.sh"], lambda line: None)
+    progress.end()
+    tell("line", "the library is built")
+
+
+class Library:
+    """The three functions."""
+
+    def __init__(self):
+        if not is_built():
+            build()
+        shared = ctypes.CDLL(SHARED)
+        lent, length, room = ctypes.c_char_p, ctypes.c_size_t, ctypes.c_void_p
+        self.panel_check = self.function(shared.panel_check, Checked, [lent, length] * 2)
+        self.panel_measure = self.function(shared.panel_measure, Printed, [lent, length] * 2)
+        self.panel_print = self.function(shared.panel_print, Printed, [lent, length] * 2 + [room, length] * 2)
+
+    @staticmethod
+    def function(found, answer, lent):
+        found.restype, found.argtypes = answer, lent
+        return found
+
+    def check(self, form, kinds):
+        """Pieces and largest argument of a format against kinds, both bytes."""
+        answer = self.panel_check(form, len(form), kinds, len(kinds))
+        if answer.number:
+            raise Refused(answer)
+        return answer
+
+    def measure(self, form, row):
+        """Length and pieces of a row under a format."""
+        answer = self.panel_measure(form, len(form), row, len(row))
+        if answer.number:
+            raise Refused(answer)
+        return answer
+
+    def print(self, form, row):
+        """The text of a row under a format, and the ends of its pieces. As much is lent as measuring says, up to MOST_OUTPUT."""
+        measured = self.measure(form, row)
+        room = min(measured.length, MOST_OUTPUT)
+        out, ends = ctypes.create_string_buffer(room), (ctypes.c_uint8 * (4 * measured.pieces))()
+        answer = self.panel_print(form, len(form), row, len(row), ctypes.addressof(out), room, ctypes.addressof(ends), len(ends))
+        if answer.number:
+            raise Refused(answer)
+        return out.raw[:answer.length], [int.from_bytes(ends[k:k + 4], "little") for k in range(0, len(ends), 4)]

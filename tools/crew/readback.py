@@ -1,0 +1,42 @@
+"""The order's rule for reading a printed column back (docs/MANUAL.md, "Reading a column back")."""
+
+import re
+from fractions import Fraction
+
+DROPPED = bytes.maketrans(b"", b"")
+DECIMAL = re.compile(rb"(-?)([0-9]+)|\(([0-9]+)\)")
+BASE = {"x": (16, re.compile(rb"(?:0x)?([0-9a-f]+)")), "o": (8, re.compile(rb"(?:0x)?([0-7]+)"))}
+FLOAT = re.compile(rb"(-?)0x([0-9a-f]+)\.([0-9a-f]+)p(-?[0-9]+)")
+
+
+class Reading:
+    """What a column denotes: a sign, which zero has too, and a size."""
+
+    def __init__(self, negative, size):
+        self.negative, self.size = negative, Fraction(size)
+
+    def __eq__(self, other):
+        return (self.negative, self.size) == (other.negative, other.size)
+
+    def __str__(self):
+        sign = "-" if self.negative else ""
+        if self.size.denominator == 1 and self.size < 1 << 64:
+            return f"{sign}{self.size}"
+        try:
+            return sign + repr(float(self.size))
+        except OverflowError:
+            return f"{sign}2^{self.size.numerator.bit_length() - 1}"
+
+
+def read_back(letter, piece):
+    """The reading of a piece's bytes under its element's letter; None where the rule does not read it."""
+    letter, kept = letter.lower(), piece.translate(DROPPED, b" ,+").lower()
+    if letter == "d" and (found := DECIMAL.fullmatch(kept)):
+        sign, plain, bracketed = found.groups()
+        return Reading(bool(sign) or plain is None, int(plain or bracketed))
+    if letter in BASE and (found := BASE[letter][1].fullmatch(kept)):
+        return Reading(False, int(found[1], BASE[letter][0]))
+    if letter == "a" and (found := FLOAT.fullmatch(kept)):
+        sign, whole, behind, power = found.groups()
+        return Reading(bool(sign), int(whole + behind, 16) * Fraction(2) ** (int(power) - 4 * len(behind)))
+    return None

@@ -1,0 +1,142 @@
+"""Values written as words (`int8=7`), and the row of values that is packed from them (docs/MANUAL.md, "The row")."""
+
+import itertools
+import operator
+import re
+import struct
+
+from inputs import BadInput, bytes_of
+
+MOST_VALUES = 64
+MOST_TEXT = 32768
+
+KIND = {"int8": 1, "int16": 2, "int32": 3, "int64": 4, "f64": 5, "bool": 6, "text": 7}
+INTEGER_BITS = {"int8": 8, "int16": 16, "int32": 32, "int64": 64}
+NULL_MARK = 128
+
+INTEGER = re.compile(r"[+-]?(0[xX][0-9a-fA-F]+|[0-9]+)")
+DECIMAL = re.compile(r"[+-]?([0-9]+\.?[0-9]*|\.[0-9]+)([eE][+-]?[0-9]+)?")
+HEX_FLOAT = re.compile(r"[+-]?0[xX]([0-9a-fA-F]+\.?[0-9a-fA-F]*|\.[0-9a-fA-F]+)([pP][+-]?[0-9]+)?")
+BITS = re.compile(r"bits:0[xX][0-9a-fA-F]+")
+FLOAT_WORDS = {"nan": 0x7FF8000000000000, "inf": 0x7FF0000000000000, "-inf": -0x10000000000000}
+BOOLEANS = {"true": 1, "false": 0, "null": None}
+
+
+# A parser takes words of one kind and gives for each the 8 bytes of the row as a signed number, None for null. That of texts gives their bytes.
+
+
+def integers(kind, words):
+    """The integers that words stand for. Where each is how its number is printed, only the range needs a further look."""
+    half = 1 << INTEGER_BITS[kind] - 1
+    try:
+        values = list(map(int, words))
+        if list(map(str, values)) == list(words) and -half <= min(values) and max(values) < half:
+            return values
+    except ValueError:
+        pass
+    return [integer(kind, half, word) for word in words]
+
+
+def integer(kind, half, word):
+    """The integer that a word stands for, from -half to below half; None for null."""
+    if word == "null":
+        return None
+    if not INTEGER.fullmatch(word):
+        raise BadInput(f"{kind}={word}: not a whole number, decimal or 0x..")
+    digits = word.lstrip("+-")
+    base = 16 if digits[:2] in ("0x", "0X") else 10
+    if base == 10:
+        digits = digits.lstrip("0")[:20] or "0"  # 20 digits are out of every range
+    value = -int(digits, base) if word.startswith("-") else int(digits, base)
+    if not -half <= value < half:
+        raise BadInput(f"{kind}={word}: out of range, which is {-half} to {half - 1}")
+    return value
+
+
+def float_bits(word):
+    """The bits of a binary64."""
+    if word in FLOAT_WORDS:
+        return FLOAT_WORDS[word]
+    if word == "null":
+        raise BadInput("f64=null: only integers and Booleans can be null")
+    if BITS.fullmatch(word):
+        bits = int(word[len("bits:"):], 16)
+        if bits >> 64:
+            raise BadInput(f"f64={word}: out of range, more than 64 bits")
+        return bits - (1 << 64) if bits >> 63 else bits
+    try:
+        if DECIMAL.fullmatch(word):
+            value = float(word)
+        elif HEX_FLOAT.fullmatch(word):
+            value = float.fromhex(word)
+        else:
+            raise BadInput(f"f64={word}: not a decimal or hexadecimal float, nan, inf, -inf or bits:0x..")
+    except OverflowError:
+        value = float("inf")
+    if value in (float("inf"), float("-inf")):
+        raise BadInput(f"f64={word}: out of range; infinity is written inf or -inf")
+    return struct.unpack("<q", struct.pack("<d", value))[0]
+
+
+def boolean(word):
+    """0 or 1; None for null."""
+    if word not in BOOLEANS:
+        raise BadInput(f"bool={word}: not true, false or null")
+    return BOOLEANS[word]
+
+
+def parse(kind, words):
+    """The parser of a kind, by its name."""
+    if kind in INTEGER_BITS:
+        return integers(kind, words)
+    return list(map({"f64": float_bits, "bool": boolean, "text": bytes_of}[kind], words))
+
+
+class Rows:
+    """Packs rows whose values have the same kinds, given by their names."""
+
+    def __init__(self, names):
+        count = len(names)
+        if count > MOST_VALUES:
+            raise BadInput(f"{count} values: more than {MOST_VALUES}")
+        self.names, self.kinds = names, bytes(KIND[name] for name in names)
+        self.layout = struct.Struct(f"<HI{count}s{count}q")
+
+    def pack(self, columns, count):
+        """So many rows, of a column of words for each kind: count, length of the text, kind bytes, values, text."""
+        values = [parse(name, words) for name, words in zip(self.names, columns)]
+        texts = [b""] * count
+        for k, name in enumerate(self.names):
+            if name == "text":
+                parts = values[k]
+                values[k] = [len(part) << 32 | len(before) for part, before in zip(parts, texts)]
+                texts = list(map(operator.add, texts, parts))
+        longest = max(map(len, texts))
+        if longest > MOST_TEXT:
+            raise BadInput(f"text of {longest} bytes in all: more than {MOST_TEXT}")
+        kinds = itertools.repeat(self.kinds, count)
+        if any(None in column for column in values):
+            kinds = [bytes(kind + NULL_MARK * (value is None) for kind, value in zip(self.kinds, row)) for row in zip(*values)]
+            values = [[value or 0 for value in column] for column in values]
+        fixed = map(self.layout.pack, itertools.repeat(len(self.names), count), map(len, texts), kinds, *values)
+        return list(map(operator.add, fixed, texts))
+
+
+def split_value(word):
+    """The kind's name and the value's word of a word KIND=VALUE."""
+    name, equals, rest = word.partition("=")
+    if not equals:
+        raise BadInput(f"{name}: a value is written KIND=VALUE")
+    check_kind(name)
+    return name, rest
+
+
+def check_kind(name):
+    if name not in KIND:
+        raise BadInput(f"{name}: no such kind; there are {' '.join(KIND)}")
+
+
+def pack_row(words):
+    """The row of the words KIND=VALUE."""
+    parts = [split_value(word) for word in words]
+    return Rows([name for name, _ in parts]).pack([[rest] for _, rest in parts], 1)[0]
