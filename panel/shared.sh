@@ -6,5 +6,6 @@ root=$(cd "$(dirname "$0")/.." && pwd)
 lib=$(realpath "${1:-$root/target/staticlib/libpanel.a}")
 cd "$root"
 mkdir -p target/panel
-gcc -shared -Wl,-soname,libpanel.so -Wl,-z,defs -Wl,-z,text -Wl,--whole-archive "$lib" -Wl,--no-whole-archive -o target/panel/libpanel.so
+gcc -shared -Wl,-soname,libpanel.so -Wl,-z,defs -Wl,-z,text -Wl,--whole-archive "$lib" -Wl,--no-whole-archive -o target/panel/libpanel.so.new
+mv target/panel/libpanel.so.new target/panel/libpanel.so
 echo "target/panel/libpanel.so"

@@ -3,7 +3,7 @@
 import re
 from fractions import Fraction
 
-DROPPED = bytes.maketrans(b"", b"")
+DROPPED = b" ,+"
 DECIMAL = re.compile(rb"(-?)([0-9]+)|\(([0-9]+)\)")
 BASE = {"x": (16, re.compile(rb"(?:0x)?([0-9a-f]+)")), "o": (8, re.compile(rb"(?:0x)?([0-7]+)"))}
 FLOAT = re.compile(rb"(-?)0x([0-9a-f]+)\.([0-9a-f]+)p(-?[0-9]+)")
@@ -30,7 +30,7 @@ class Reading:
 
 def read_back(letter, piece):
     """The reading of a piece's bytes under its element's letter; None where the rule does not read it."""
-    letter, kept = letter.lower(), piece.translate(DROPPED, b" ,+").lower()
+    letter, kept = letter.lower(), piece.translate(None, DROPPED).lower()
     if letter == "d" and (found := DECIMAL.fullmatch(kept)):
         sign, plain, bracketed = found.groups()
         return Reading(bool(sign) or plain is None, int(plain or bracketed))
