@@ -19,8 +19,8 @@ use Rattle.specifiers.specs.Flags.{leadingFlags, firstClash, flagsAt}
 use Rattle.specifiers.specs.Specifier.{precisionAt, letterAt, partsAt, specifierAt}
 use Rattle.parsing.specs.Pieces.{textLength, indexAt, argumentAt, elementAt, pieceAt}
 use Rattle.parsing.specs.Listed.{placedFrom, endFrom, placed, ended}
+use Rattle.scalars.specs.Scalars.{utf8Of}
 use Rattle.strings.specs.Cut.{capital, backTo, cutLength, cutTo, cased}
-use Rattle.strings.specs.Scalars.{utf8Of}
 use Rattle.rows.specs.Row.{namedText, entryAt, entriesFrom, isRow}
 use Rattle.elements.specs.Texts.{elementText}
 use Rattle.pieces.specs.PieceTexts.{shownPiece}
