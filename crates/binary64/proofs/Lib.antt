@@ -2,4 +2,3 @@ pub mod Powers
 pub mod Kept
 pub mod Value
 pub mod Scaled
-pub mod Texts

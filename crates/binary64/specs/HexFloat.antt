@@ -1,12 +1,8 @@
--- The hexadecimal text of a finite binary64 value, without mark, prefix and padding. 01, "Hexadecimal floats".
+-- The parts of the hexadecimal text of a finite binary64 value. 01, "Hexadecimal floats".
 use Prim.Native.Nat.{ℕ, _+_, _-_, _/_, _^_, max}
-use Prim.Native.Char.{code}
-use mathlib.Core.Bool.{Bool, true, false}
-use mathlib.Core.List.{List, _∷_, _++_}
+use mathlib.Core.Bool.{true, false}
 use lib.Dec.{ltb, eqb}
-use lib.ListN.{replicate}
 use Rattle.writing.specs.Choose.{choose}
-use Rattle.numerals.specs.Digits.{digitsIn, lettersOf, decimal}
 use Rattle.params.specs.declared.NumericParam.{NumericParam}
 use Rattle.params.specs.declared.NumericParam.the-variants.{Literal, FromArgument}
 use Rattle.binary64.specs.Fields.{exponentField, fractionField, scaledBits}
@@ -57,28 +53,3 @@ hexFloatOf b p =
     choose (eqb (exponentField b) 0)
     (λ _. choose (eqb (fractionField b) 0) (λ _. zeroForm) (λ _. subnormalOf p (fractionField b)))
     (λ _. normalOf p (fractionField b) (exponentField b) 1023)
-
--- The digit before the point.
-abbrev pub leadingDigit : Bool → ℕ
-leadingDigit false = 0
-leadingDigit true = 1
-
-abbrev pub leadingLetter : Bool → ℕ
-leadingLetter leading = code "0" + leadingDigit leading
-
-abbrev pub exponentLetter : Bool → ℕ
-exponentLetter false = code "p"
-exponentLetter true = code "P"
-
--- `p` and the exponent in decimal, "perhaps with `-`": e less its bias.
-unfoldable pub exponentText : Bool → ℕ → ℕ → List ℕ
-exponentText upper e bias =
-    exponentLetter upper ∷ choose (ltb e bias) (λ _. code "-" ∷ decimal (bias - e)) (λ _. decimal (e - bias))
-
--- The parts as text.
-unfoldable pub hexFloatText : Bool → HexFloat → List ℕ
-hexFloatText upper h =
-    leadingLetter (h .leading)
-    ∷ code "."
-    ∷ (lettersOf upper (digitsIn 16 (h .digits) (h .fraction))
-    ++ (replicate (h .zeros) (code "0") ++ exponentText upper (h .exponent) (h .bias)))

@@ -9,8 +9,9 @@ use Rattle.params.specs.Params.{leadingDigits, numberTaken, numberAt, paramAt}
 use Rattle.words.specs.LittleEndian.{littleEndian, wordAt}
 use Rattle.layout.specs.Frame.{spaces, headText, tailText, framed, spare, frameOf, padded}
 use Rattle.binary64.specs.Fields.{negative, exponentField, fractionField, categoryOf, scaledBits}
-use Rattle.binary64.specs.HexFloat.{shortest, rounded, hexFloatOf, exponentText, hexFloatText}
+use Rattle.binary64.specs.HexFloat.{shortest, rounded, hexFloatOf}
 use Rattle.binary64.specs.Rounding.{nearestTo, keptDigits}
+use Rattle.hexfloats.specs.Texts.{exponentText, hexFloatText}
 use Rattle.utf8.specs.Utf8.{leadOf, wellFormedFrom, wellFormed}
 use Rattle.conversions.specs.Letters.{smallOf, capitalOf}
 use Rattle.conversions.specs.Kinds.{kindOf, isIntegerKind, integerForm, fitsKind, printsAs}
@@ -18,8 +19,8 @@ use Rattle.specifiers.specs.Flags.{leadingFlags, firstClash, flagsAt}
 use Rattle.specifiers.specs.Specifier.{precisionAt, letterAt, partsAt, specifierAt}
 use Rattle.parsing.specs.Pieces.{textLength, indexAt, argumentAt, elementAt, pieceAt}
 use Rattle.parsing.specs.Listed.{placedFrom, endFrom, placed, ended}
+use Rattle.scalars.specs.Scalars.{utf8Of}
 use Rattle.strings.specs.Cut.{capital, backTo, cutLength, cutTo, cased}
-use Rattle.strings.specs.Scalars.{utf8Of}
 use Rattle.rows.specs.Row.{namedText, entryAt, entriesFrom, isRow}
 use Rattle.elements.specs.Texts.{elementText}
 use Rattle.pieces.specs.PieceTexts.{shownPiece}

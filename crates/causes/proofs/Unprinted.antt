@@ -31,7 +31,7 @@ use Rattle.grammar.specs.Runs.{begins, all}
 use Rattle.grammar.specs.Elements.{letters, kinds, inTable}
 use Rattle.grammar.proofs.Total.{has-none}
 use Rattle.grammar.proofs.Letters.{never, all-has, same, same-is, one, not-time, either-time, second, no-letter-is}
-use Rattle.strings.specs.Scalars.{isScalar}
+use Rattle.scalars.specs.Scalars.{isScalar}
 use Rattle.elements.specs.Texts.{Text, charText, valueText, stopOf}
 use Rattle.causes.specs.Causes.{printedFor, printsBytes, isScalarValue}
 

@@ -8,10 +8,11 @@ use Rattle.layout.specs.Signs.{isMinus}
 use Rattle.layout.specs.declared.Mark.{Mark}
 use Rattle.layout.specs.declared.Prefix.{Prefix}
 use Rattle.binary64.specs.Fields.{negative}
-use Rattle.binary64.specs.HexFloat.{hexFloatOf, hexFloatText}
+use Rattle.binary64.specs.HexFloat.{hexFloatOf}
 use Rattle.binary64.specs.declared.HexFloat.{HexFloat}
 use Rattle.binary64.specs.declared.FpCategory.{FpCategory}
 use Rattle.binary64.specs.declared.FpCategory.the-variants as C
+use Rattle.hexfloats.specs.Texts.{hexFloatText}
 use Rattle.reading.specs.Reading.{Float, readPiece}
 use Rattle.reading.proofs.Integers.{spaced}
 use Rattle.reading.proofs.Floats.{scaledOf, hexPrefix as readPrefix}

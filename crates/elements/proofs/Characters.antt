@@ -10,7 +10,7 @@ use lib.Seq.{take-at}
 use borrow.Author.Tests.{ltb-true, leb-true}
 use Rattle.writing.specs.Laid.{laid}
 use Rattle.writing.specs.Writers.{Wrote}
-use Rattle.strings.specs.Scalars.{isScalar}
+use Rattle.scalars.specs.Scalars.{isScalar}
 
 -- a text that was written is read again
 pub wrote-start : (d t out : List ℕ) (n : ℕ) → Wrote d t n out → take n out ≡ t

@@ -27,8 +27,8 @@ use Rattle.conversions.specs.declared.Form.the-variants as F
 use Rattle.specifiers.specs.declared.Flags.{Flags}
 use Rattle.specifiers.specs.declared.Element.{Element}
 use Rattle.numbers.specs.Numbers.{widthOf, numeralText, floatMark, finiteText}
+use Rattle.scalars.specs.Scalars.{isScalar, utf8Of}
 use Rattle.strings.specs.Cut.{cutTo, cased}
-use Rattle.strings.specs.Scalars.{isScalar, utf8Of}
 use Rattle.rows.specs.Row.{isNull}
 
 -- Where the padding stands: `-` decides; "`0` pads with spaces" under %s, %c and %b.

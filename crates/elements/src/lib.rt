@@ -80,9 +80,9 @@ fn format_char(out: &mut [u8], e: Element, value: u64) -> Size
         return Size::Stops(refusals::NO_SCALAR);
     }
     let magnitude = numerals::magnitude(value);
-    if strings::is_scalar(magnitude) {
+    if scalars::is_scalar(magnitude) {
         let mut buffer = [0u8; 4];
-        let n = strings::write_scalar(&mut buffer, magnitude as u32);
+        let n = scalars::write_scalar(&mut buffer, magnitude as u32);
         return Size::Bytes(put_padded(out, e, Mark::NoMark, &buffer[..n]));
     }
     Size::Stops(refusals::NO_SCALAR)

@@ -17,7 +17,8 @@ use Rattle.layout.specs.declared.Prefix.the-variants.{NoPrefix, Octal, HexLower
 use Rattle.layout.specs.declared.Adjust.{Adjust}
 use Rattle.layout.specs.declared.Adjust.the-variants.{Right, Left, Zeros}
 use Rattle.binary64.specs.Fields.{negative}
-use Rattle.binary64.specs.HexFloat.{hexFloatOf, hexFloatText}
+use Rattle.binary64.specs.HexFloat.{hexFloatOf}
+use Rattle.hexfloats.specs.Texts.{hexFloatText}
 use Rattle.numerals.specs.declared.Radix.{Radix}
 use Rattle.numerals.specs.declared.Radix.the-variants as R
 use Rattle.specifiers.specs.declared.Flags.{Flags}

@@ -239,7 +239,7 @@ pub fn format_finite(out: &mut [u8], e: Element, bits: u64) -> u64
     let parts = binary64::to_parts(bits);
     let mark = float_mark(flags, parts.negative);
     let float = binary64::hex_float(bits, precision);
-    let n = binary64::hex_float_len(float);
+    let n = hexfloats::hex_float_len(float);
     let framed = layout::put_frame(
         out,
         width_of(width),
@@ -251,7 +251,7 @@ pub fn format_finite(out: &mut [u8], e: Element, bits: u64) -> u64
     let total = framed.added + n;
     if framed.fits {
         let at = framed.at;
-        binary64::write_hex_float(&mut out[at..], float, upper);
+        hexfloats::write_hex_float(&mut out[at..], float, upper);
     }
     total
 }

@@ -9,7 +9,8 @@ use Rattle.params.specs.Params.{leadingDigits, numberTaken, numberAt, paramAt}
 use Rattle.layout.specs.Frame.{spaces, headText, tailText, framed, spare, frameOf}
 use Rattle.binary64.specs.Fields.{negative, exponentField, fractionField, categoryOf, significand, units, scaledBits}
 use Rattle.binary64.specs.Rounding.{nearestTo, keptDigits}
-use Rattle.binary64.specs.HexFloat.{shortest, rounded, hexFloatOf, exponentText, hexFloatText}
+use Rattle.binary64.specs.HexFloat.{shortest, rounded, hexFloatOf}
+use Rattle.hexfloats.specs.Texts.{exponentText, hexFloatText}
 use Rattle.reading.specs.Kept.{kept}
 use Rattle.reading.specs.Nearness.{wholeAt, valueAt}
 use Rattle.reading.specs.Reading.{digitOf, digitsFrom, wholeNumber, withMinus, beforeClose, readDecimal}

@@ -22,8 +22,8 @@ use Rattle.layout.specs.declared.Mark.{Mark}
 use Rattle.layout.specs.declared.Mark.the-variants.{NoMark, Plus, Space, Minus, Brackets}
 use Rattle.layout.specs.declared.Prefix.{Prefix}
 use Rattle.layout.specs.declared.Prefix.the-variants.{HexLower, HexUpper}
-use Rattle.binary64.specs.HexFloat.{leadingDigit, exponentText, hexFloatText}
 use Rattle.binary64.specs.declared.HexFloat.{HexFloat}
+use Rattle.hexfloats.specs.Texts.{leadingDigit, exponentText, hexFloatText}
 use Rattle.reading.specs.Kept.{kept}
 use Rattle.reading.specs.Reading.{withMinus, afterPrefix, cutAt, Scaled, readMagnitude, readFloat}
 use Rattle.reading.proofs.Kept.{kept-append, kept-letters, zero-letters}

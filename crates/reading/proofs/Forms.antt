@@ -13,10 +13,11 @@ use Rattle.params.specs.declared.NumericParam.{NumericParam}
 use Rattle.params.specs.declared.NumericParam.the-variants.{Literal, FromArgument}
 use Rattle.binary64.specs.Fields.{exponentField, fractionField, scaledBits}
 use Rattle.binary64.specs.Rounding.{nearestTo, keptDigits}
-use Rattle.binary64.specs.HexFloat.{leadingDigit, zeroForm, normalForm, subnormalForm, shortest, carried, rounded, normalOf, subnormalOf, hexFloatOf}
+use Rattle.binary64.specs.HexFloat.{zeroForm, normalForm, subnormalForm, shortest, carried, rounded, normalOf, subnormalOf, hexFloatOf}
 use Rattle.binary64.specs.declared.HexFloat.{HexFloat}
 use Rattle.binary64.proofs.Kept.{kept-bounds}
 use Rattle.binary64.proofs.Value.{field-bounds}
+use Rattle.hexfloats.specs.Texts.{leadingDigit}
 
 -- m and f of the number that a text in parts makes
 abbrev pub wholeOf : HexFloat → ℕ

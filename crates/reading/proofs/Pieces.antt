@@ -16,7 +16,8 @@ use Rattle.layout.specs.declared.Mark.{Mark}
 use Rattle.layout.specs.declared.Mark.the-variants.{NoMark}
 use Rattle.layout.specs.declared.Prefix.{Prefix}
 use Rattle.layout.specs.declared.Prefix.the-variants.{NoPrefix}
-use Rattle.binary64.specs.HexFloat.{hexFloatOf, hexFloatText}
+use Rattle.binary64.specs.HexFloat.{hexFloatOf}
+use Rattle.hexfloats.specs.Texts.{hexFloatText}
 use Rattle.reading.specs.Kept.{kept}
 use Rattle.reading.specs.Reading.{Integer, Bits, Float, reading, readFloat, readPiece}
 use Rattle.reading.proofs.Integers.{spaced, decimal-back, bits-back}

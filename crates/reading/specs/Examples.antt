@@ -23,7 +23,8 @@ use Rattle.binary64.specs.Fields.{negative, exponentField, fractionField, categ
 use Rattle.binary64.specs.declared.FpCategory.{FpCategory}
 use Rattle.binary64.specs.declared.FpCategory.the-variants.{Nan, Infinite, Finite}
 use Rattle.binary64.specs.Rounding.{nearestTo, keptDigits}
-use Rattle.binary64.specs.HexFloat.{hexFloatOf, hexFloatText}
+use Rattle.binary64.specs.HexFloat.{hexFloatOf}
+use Rattle.hexfloats.specs.Texts.{hexFloatText}
 use Rattle.reading.specs.Kept.{kept}
 use Rattle.reading.specs.Nearness.{wholeAt, valueAt, apart}
 use Rattle.reading.specs.Reading.{Reading, Unread, Integer, Bits, Float, readPiece}

@@ -1,6 +1,6 @@
-// Text values: cut to a precision, in capitals, and characters by number.
-// Ported from format_string.rs of datafusion-spark 55.2.0 (Apache-2.0; see NOTICE): the cut of format_str, the capitals of
-// format_string, and codepoint_to_char with the encoding of format_char.
+// Text values: cut to a precision, and in capitals.
+// Ported from format_string.rs of datafusion-spark 55.2.0 (Apache-2.0; see NOTICE): the cut of format_str and the capitals of
+// format_string.
 use params::NumericParam;
 ghost use mathlib.Core.Path.{_≡_};
 ghost use mathlib.Core.List.{map};
@@ -8,7 +8,6 @@ ghost use Prim.Native.Nat.{_≤_, _<_};
 ghost use lib.ListN.{length};
 ghost use Rattle.writing.specs.Writers.{Wrote};
 ghost use Rattle.strings.specs.Cut.{backTo, cutLength, cutTo, capital, cased};
-ghost use Rattle.strings.specs.Scalars.{isScalar, utf8Of};
 
 // The last place up to n that does not stand inside a character.
 fn char_start(s: &[u8], n: usize) -> usize
@@ -86,44 +85,4 @@ pub fn write_cased(out: &mut [u8], text: &[u8], upper: bool) -> usize
         return write_upper(out, text);
     }
     writing::write_text(out, text)
-}
-
-// Whether a number is a Unicode scalar value.
-pub fn is_scalar(c: u64) -> bool
-    ensures { λ r. ⌜ r ≡ isScalar c ⌝ }
-{
-    if c < 0xd800 {
-        return true;
-    }
-    if c < 0xe000 {
-        return false;
-    }
-    c <= 0x10ffff
-}
-
-// Writes the UTF-8 bytes of a scalar value. Answers how many these are.
-pub fn write_scalar(out: &mut [u8], c: u32) -> usize
-    requires { ⌜ (c ≤ 0x10ffff) × (length (utf8Of c) ≤ length (now out)) ⌝ }
-    ensures { λ r. ⌜ Wrote (now (out .entry)) (utf8Of c) r (now (out .exit)) ⌝ }
-{
-    if c < 0x80 {
-        out[0] = c as u8;
-        return 1;
-    }
-    if c < 0x800 {
-        out[0] = (192 + c / 64) as u8;
-        out[1] = (128 + c % 64) as u8;
-        return 2;
-    }
-    if c < 0x10000 {
-        out[0] = (224 + c / 4096) as u8;
-        out[1] = (128 + c / 64 % 64) as u8;
-        out[2] = (128 + c % 64) as u8;
-        return 3;
-    }
-    out[0] = (240 + c / 262144) as u8;
-    out[1] = (128 + c / 4096 % 64) as u8;
-    out[2] = (128 + c / 64 % 64) as u8;
-    out[3] = (128 + c % 64) as u8;
-    4
 }

@@ -4,7 +4,7 @@ use mathlib.Core.Path.{sym, _∙_}
 use lib.ListN.{length-take}
 use lib.Seq.{length-take-le}
 use native.Mathlib.Omega.{arith}
-use Rattle.strings.proofs.Scalars.{scalar-length}
+use Rattle.scalars.proofs.Scalars.{scalar-length}
 use Rattle.elements.proofs.Characters.{wrote-start, scalar-within}
 use Rattle.elements.proofs.Shown.{sized-text, sized-stop}
 use borrow.Author.Needs.{needs}

@@ -7,8 +7,8 @@ use lib.ListN.{length, length-take, length-drop}
 use native.Mathlib.Omega.{arith}
 use Rattle.layout.specs.Frame.{padded}
 use Rattle.layout.proofs.Padded.{framed-room, framed-put, framed-not}
-use Rattle.binary64.specs.HexFloat.{hexFloatText}
-use Rattle.binary64.proofs.Texts.{hex-length, exponent-length}
+use Rattle.hexfloats.specs.Texts.{hexFloatText}
+use Rattle.hexfloats.proofs.Texts.{hex-length, exponent-length}
 use Rattle.numbers.specs.Numbers.{finiteText}
 use borrow.Author.Needs.{needs}
 use Rattle.numbers.proofs.format_finite.Statement.{statement}

@@ -1,10 +1,10 @@
--- `binary64::hex_float_len` meets its contract. Assumes nothing.
+-- `hexfloats::hex_float_len` meets its contract. Assumes nothing.
 use mathlib.Core.Bool.{false}
 use native.Mathlib.Omega.{arith}
 use borrow.Author.Needs.{needs}
-use Rattle.binary64.proofs.Texts.{exponent-length, hex-length}
-use Rattle.binary64.proofs.hex_float_len.Statement.{statement}
-use Rattle.binary64.proofs.hex_float_len.Tie as tie
+use Rattle.hexfloats.proofs.Texts.{exponent-length, hex-length}
+use Rattle.hexfloats.proofs.hex_float_len.Statement.{statement}
+use Rattle.hexfloats.proofs.hex_float_len.Tie as tie
 
 exponent-len-requires : tie.Need-exponent-len-requires
 exponent-len-requires c κs = search needs

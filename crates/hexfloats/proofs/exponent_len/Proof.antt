@@ -1,10 +1,10 @@
--- `binary64::exponent_len` meets its contract. Assumes nothing.
+-- `hexfloats::exponent_len` meets its contract. Assumes nothing.
 use Prim.Native.Nat.{_-_}
 use native.Mathlib.Omega.{arith}
 use borrow.Author.Needs.{needs}
-use Rattle.binary64.proofs.Texts.{ten-places, below-length, above-length}
-use Rattle.binary64.proofs.exponent_len.Statement.{statement}
-use Rattle.binary64.proofs.exponent_len.Tie as tie
+use Rattle.hexfloats.proofs.Texts.{ten-places, below-length, above-length}
+use Rattle.hexfloats.proofs.exponent_len.Statement.{statement}
+use Rattle.hexfloats.proofs.exponent_len.Tie as tie
 
 sub-decimal-len : tie.Need-sub-decimal-len
 sub-decimal-len c = search needs

@@ -1,6 +1,6 @@
--- `binary64::leading_letter` meets its contract. Assumes nothing.
-use Rattle.binary64.proofs.leading_letter.Statement.{statement}
-use Rattle.binary64.proofs.leading_letter.Tie as tie
+-- `hexfloats::leading_letter` meets its contract. Assumes nothing.
+use Rattle.hexfloats.proofs.leading_letter.Statement.{statement}
+use Rattle.hexfloats.proofs.leading_letter.Tie as tie
 
 returns : tie.Need-returns
 returns c = simp (c .if1 .taken)

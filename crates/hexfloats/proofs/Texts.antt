@@ -15,8 +15,8 @@ use Rattle.writing.specs.Writers.{Wrote}
 use Rattle.writing.proofs.Laid.{laid-stores, laid-next}
 use Rattle.numerals.specs.Digits.{digitsIn, places, digits, lettersOf, numeral, decimal}
 use Rattle.numerals.proofs.Digits.{length-lettersIn, length-numeral, places-le}
 use Rattle.binary64.specs.declared.HexFloat.{HexFloat}
-use Rattle.binary64.specs.HexFloat.{leadingDigit, exponentLetter, exponentText, hexFloatText}
+use Rattle.hexfloats.specs.Texts.{leadingDigit, exponentLetter, exponentText, hexFloatText}
 
 -- a number of 32 bits has at most ten digits
 pub ten-places : (n : ℕ) → n < 2 ^ 32 → places 10 n ≤ 10

@@ -1,4 +1,4 @@
--- `binary64::write_exponent` meets its contract: the letter and perhaps a sign are stored, and the digits written behind them. Assumes nothing.
+-- `hexfloats::write_exponent` meets its contract: the letter and perhaps a sign are stored, and the digits written behind them. Assumes nothing.
 use mathlib.Core.Path.{_≡_, ap, _∙_}
 use mathlib.Core.List.{[], _∷_}
 use Prim.Native.Nat.{_+_, _-_, _≤_}
@@ -7,10 +7,10 @@ use lib.ListN.{length, length-set, length-take, length-drop}
 use borrow.Author.Needs.{needs}
 use Rattle.writing.proofs.Laid.{length-laid}
 use Rattle.numerals.proofs.Digits.{length-lettersIn}
-use Rattle.binary64.specs.HexFloat.{exponentText}
-use Rattle.binary64.proofs.Texts.{below-text, above-text, below-length, above-length, exponent-length, exponent-wrote}
-use Rattle.binary64.proofs.write_exponent.Statement.{statement}
-use Rattle.binary64.proofs.write_exponent.Tie as tie
+use Rattle.hexfloats.specs.Texts.{exponentText}
+use Rattle.hexfloats.proofs.Texts.{below-text, above-text, below-length, above-length, exponent-length, exponent-wrote}
+use Rattle.hexfloats.proofs.write_exponent.Statement.{statement}
+use Rattle.hexfloats.proofs.write_exponent.Tie as tie
 
 exponent-letter-requires : tie.Need-exponent-letter-requires
 exponent-letter-requires c κs = search needs

@@ -1,7 +1,7 @@
--- `strings::is_scalar` meets its contract. Assumes nothing.
+-- `scalars::is_scalar` meets its contract. Assumes nothing.
 use borrow.Author.Tests.{lt-ltb, le-ltb, le-leb, lt-leb}
-use Rattle.strings.proofs.is_scalar.Statement.{statement}
-use Rattle.strings.proofs.is_scalar.Tie as tie
+use Rattle.scalars.proofs.is_scalar.Statement.{statement}
+use Rattle.scalars.proofs.is_scalar.Tie as tie
 
 returns : tie.Need-returns
 returns c = simp (lt-ltb _ _ (c .if1 .taken))

@@ -1,13 +1,13 @@
--- `strings::write_scalar` meets its contract. Assumes nothing.
+-- `scalars::write_scalar` meets its contract. Assumes nothing.
 use mathlib.Core.Path.{refl, ap}
 use Prim.Native.Nat.{_≤_}
 use lib.ListN.{length, length-set}
 use native.Mathlib.Omega.{arith}
 use Rattle.writing.proofs.Laid.{laid-stores}
-use Rattle.strings.proofs.Scalars.{one, two, three, four}
+use Rattle.scalars.proofs.Scalars.{one, two, three, four}
 use borrow.Author.Needs.{needs}
-use Rattle.strings.proofs.write_scalar.Statement.{statement}
-use Rattle.strings.proofs.write_scalar.Tie as tie
+use Rattle.scalars.proofs.write_scalar.Statement.{statement}
+use Rattle.scalars.proofs.write_scalar.Tie as tie
 
 -- room for the bytes of each range
 room-one : (c : tie.Then1) → 1 ≤ length (c .before .args .out .now)

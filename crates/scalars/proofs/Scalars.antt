@@ -6,7 +6,7 @@ use native.Mathlib.Decide.{decLt}
 use native.Mathlib.Omega.{arith}
 use lib.ListN.{length}
 use borrow.Author.Tests.{lt-ltb, le-ltb}
-use Rattle.strings.specs.Scalars.{utf8Of}
+use Rattle.scalars.specs.Scalars.{utf8Of}
 
 module _ (c : ℕ) where
   pub one : c < 0x80 → utf8Of c ≡ c ∷ []

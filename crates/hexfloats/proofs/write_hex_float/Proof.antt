@@ -1,4 +1,4 @@
--- `binary64::write_hex_float` meets its contract: two bytes are stored, and three texts written behind them. Assumes nothing.
+-- `hexfloats::write_hex_float` meets its contract: two bytes are stored, and three texts written behind them. Assumes nothing.
 use mathlib.Core.Path.{_≡_, refl, ap, _∙_}
 use mathlib.Core.List.{List, [], _∷_, _++_}
 use Prim.Native.Nat.{ℕ, _+_, _≤_}
@@ -9,10 +9,10 @@ use Rattle.writing.specs.Laid.{laid}
 use Rattle.writing.proofs.Laid.{laid-stores, laid-next, length-laid}
 use Rattle.numerals.specs.Digits.{digitsIn, lettersOf}
 use Rattle.numerals.proofs.Digits.{length-lettersIn}
-use Rattle.binary64.specs.HexFloat.{exponentText, hexFloatText}
-use Rattle.binary64.proofs.Texts.{hex-length, hex-written}
-use Rattle.binary64.proofs.write_hex_float.Statement.{statement}
-use Rattle.binary64.proofs.write_hex_float.Tie as tie
+use Rattle.hexfloats.specs.Texts.{exponentText, hexFloatText}
+use Rattle.hexfloats.proofs.Texts.{hex-length, hex-written}
+use Rattle.hexfloats.proofs.write_hex_float.Statement.{statement}
+use Rattle.hexfloats.proofs.write_hex_float.Tie as tie
 
 cast-digits : tie.Need-cast-digits
 cast-digits c = search needs
