@@ -11,7 +11,7 @@ use Rattle.binary64.specs.Fields.{categoryOf}
 use Rattle.binary64.specs.declared.FpCategory.the-variants.{Finite}
 use Rattle.reading.specs.Reading.{Scaled, Reading, Integer, Bits, Float, readPiece}
 use Rattle.reading.specs.Nearness.{Denotes}
-use Rattle.conversions.specs.Letters.{lookup}
+use Rattle.letters.specs.Letters.{lookup}
 use Rattle.conversions.specs.Kinds.{integerKinds}
 use Rattle.rows.specs.Row.{isNull}
 

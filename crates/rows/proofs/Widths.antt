@@ -8,7 +8,7 @@ use lib.Dec.{eqb}
 use lib.Pow.{pow-lt}
 use Rattle.writing.proofs.Choose.{by-test}
 use Rattle.conversions.specs.Kinds.{integerKinds, otherKinds, kindOf}
-use Rattle.conversions.specs.Letters.{lookup}
+use Rattle.letters.specs.Letters.{lookup}
 use Rattle.conversions.specs.declared.Kind.{Kind}
 use Rattle.conversions.specs.declared.Kind.the-variants as K
 use Rattle.conversions.specs.declared.KindByte.{KindByte}
