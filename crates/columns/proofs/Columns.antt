@@ -28,9 +28,11 @@ use Rattle.conversions.specs.declared.Form.the-variants as F
 use Rattle.letters.proofs.Tables.{together}
 use Rattle.conversions.proofs.Tables.{OfByte, form-of}
 use Rattle.specifiers.specs.declared.Element.{Element}
-use Rattle.rows.specs.Row.{isNull, entryOf, entryAt, textArea, kindByteOf, valueOf}
-use Rattle.rows.specs.Arguments.{HasWidth, Argument}
-use Rattle.rows.proofs.Widths.{has-width}
+use Rattle.entries.specs.Entry.{isNull, entryOf}
+use Rattle.entries.specs.Widths.{HasWidth}
+use Rattle.entries.proofs.Widths.{has-width}
+use Rattle.rows.specs.Row.{entryAt, textArea, kindByteOf, valueOf}
+use Rattle.rows.specs.Arguments.{Argument}
 use Rattle.rows.proofs.Rows.{AllBytes, value-below, entry}
 use Rattle.elements.specs.Texts.{Shown, Text, Stops, integerText, valueText, elementText, textOf as shownText, stopOf}
 use Rattle.columns.specs.Columns.{FloatRead, bitsIn, ReadsBack}

@@ -35,7 +35,8 @@ use Rattle.grammar.proofs.Letters.{known-kind}
 use Rattle.grammar.proofs.Listed.{IsPart, nth-part}
 use Rattle.grammar.proofs.Readings.{Made, parts-of, read-whole, reads-bytes}
 use Rattle.grammar.proofs.Steps.{KindsKnown}
-use Rattle.rows.specs.Row.{countOf, kindsOf, kindByteOf, valueOf, textArea, isNull, entryOf, entryAt, isRow}
+use Rattle.entries.specs.Entry.{isNull, entryOf}
+use Rattle.rows.specs.Row.{countOf, kindsOf, kindByteOf, valueOf, textArea, entryAt, isRow}
 use Rattle.rows.proofs.Rows.{kinds-length, kind-byte, entry}
 use Rattle.columns.proofs.Letters.{NamedBy}
 use Rattle.outcomes.specs.Demand.{isTime}
