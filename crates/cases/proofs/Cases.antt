@@ -13,7 +13,7 @@ use Rattle.binary64.specs.HexFloat.{shortest, rounded, hexFloatOf}
 use Rattle.binary64.specs.Rounding.{nearestTo, keptDigits}
 use Rattle.hexfloats.specs.Texts.{exponentText, hexFloatText}
 use Rattle.utf8.specs.Utf8.{leadOf, wellFormedFrom, wellFormed}
-use Rattle.conversions.specs.Letters.{smallOf, capitalOf}
+use Rattle.letters.specs.Letters.{smallOf, capitalOf}
 use Rattle.conversions.specs.Kinds.{kindOf, isIntegerKind, integerForm, fitsKind, printsAs}
 use Rattle.specifiers.specs.Flags.{leadingFlags, firstClash, flagsAt}
 use Rattle.specifiers.specs.Specifier.{precisionAt, letterAt, partsAt, specifierAt}

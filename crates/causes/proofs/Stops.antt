@@ -21,7 +21,8 @@ use Rattle.grammar.specs.Pieces.{ElementIs, PieceIs, Lists}
 use Rattle.grammar.specs.Pieces as Q
 use Rattle.grammar.proofs.Arguments.{OfElement, Each}
 use Rattle.grammar.proofs.Letters.{never}
-use Rattle.rows.specs.Row.{namedText, kindByteOf, valueOf, isNull}
+use Rattle.entries.specs.Entry.{isNull}
+use Rattle.rows.specs.Row.{namedText, kindByteOf, valueOf}
 use Rattle.elements.specs.Texts.{elementText, stopOf}
 use Rattle.pieces.specs.PieceTexts.{shownPiece, pieceStop}
 use Rattle.outcomes.specs.Printed.{Stop, stopAt, firstStop}

@@ -14,7 +14,8 @@ use Rattle.grammar.specs.Runs.{begins}
 use Rattle.grammar.specs.Parts.{Written, Part, text, percent, newline, element, bytesBefore}
 use Rattle.grammar.specs.Elements.{kinds, inTable}
 use Rattle.grammar.specs.Readings.{Whole, StopsReading}
-use Rattle.rows.specs.Row.{kindByteOf, valueOf, isNull, isRow}
+use Rattle.entries.specs.Entry.{isNull}
+use Rattle.rows.specs.Row.{kindByteOf, valueOf, isRow}
 use Rattle.outcomes.specs.Printed.{printedText}
 use Rattle.causes.specs.Calls.{Call, checking, printing, formatIn, kindsIn, OfRow}
 

@@ -12,10 +12,10 @@ use Rattle.numerals.specs.Integers.{intOf, bitsOf}
 use Rattle.binary64.specs.Fields.{categoryOf}
 use Rattle.binary64.specs.declared.FpCategory.the-variants.{Finite}
 use Rattle.reading.specs.Reading.{Integer, Bits, readPiece}
-use Rattle.conversions.specs.Letters.{lookup}
+use Rattle.letters.specs.Letters.{lookup}
 use Rattle.conversions.specs.Kinds.{integerKinds, kindOf, integerForm, onlyIf, formOf, printsAs}
-use Rattle.conversions.specs.declared.ConversionType.{ConversionType}
-use Rattle.conversions.specs.declared.ConversionType.the-variants as C
+use Rattle.letters.specs.declared.ConversionType.{ConversionType}
+use Rattle.letters.specs.declared.ConversionType.the-variants as C
 use Rattle.numerals.specs.declared.Radix.{Radix}
 use Rattle.numerals.specs.declared.Radix.the-variants as R
 use Rattle.conversions.specs.declared.Kind.{Kind}
@@ -25,11 +25,14 @@ use Rattle.conversions.specs.declared.KindByte.the-variants.{Known, Unknown}
 use Rattle.conversions.specs.declared.IntegerForm.{IntegerForm}
 use Rattle.conversions.specs.declared.IntegerForm.the-variants.{Numeral, Scalar, Digits}
 use Rattle.conversions.specs.declared.Form.the-variants as F
-use Rattle.conversions.proofs.Tables.{together, OfByte, form-of}
+use Rattle.letters.proofs.Tables.{together}
+use Rattle.conversions.proofs.Tables.{OfByte, form-of}
 use Rattle.specifiers.specs.declared.Element.{Element}
-use Rattle.rows.specs.Row.{isNull, entryOf, entryAt, textArea, kindByteOf, valueOf}
-use Rattle.rows.specs.Arguments.{HasWidth, Argument}
-use Rattle.rows.proofs.Widths.{has-width}
+use Rattle.entries.specs.Entry.{isNull, entryOf}
+use Rattle.entries.specs.Widths.{HasWidth}
+use Rattle.entries.proofs.Widths.{has-width}
+use Rattle.rows.specs.Row.{entryAt, textArea, kindByteOf, valueOf}
+use Rattle.rows.specs.Arguments.{Argument}
 use Rattle.rows.proofs.Rows.{AllBytes, value-below, entry}
 use Rattle.elements.specs.Texts.{Shown, Text, Stops, integerText, valueText, elementText, textOf as shownText, stopOf}
 use Rattle.columns.specs.Columns.{FloatRead, bitsIn, ReadsBack}

@@ -28,7 +28,7 @@ use Rattle.numerals.specs.declared.Radix.{Radix}
 use Rattle.numerals.specs.declared.Radix.the-variants as R
 use Rattle.specifiers.specs.declared.Flags.{Flags}
 use Rattle.specifiers.specs.declared.Element.{Element}
-use Rattle.rows.specs.Row.{holds}
+use Rattle.entries.specs.Entry.{holds}
 use Rattle.numbers.specs.Numbers.{widthOf, fill, integerMark, commas, ifAlternate, hexPrefix, paddedNumber, numeralText}
 use Rattle.columns.proofs.Forms.{numeralLetter, NumeralRead}
 use Rattle.columns.proofs.Frames.{padded-read, sign-mark}

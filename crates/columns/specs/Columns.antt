@@ -11,9 +11,9 @@ use Rattle.binary64.specs.Fields.{categoryOf}
 use Rattle.binary64.specs.declared.FpCategory.the-variants.{Finite}
 use Rattle.reading.specs.Reading.{Scaled, Reading, Integer, Bits, Float, readPiece}
 use Rattle.reading.specs.Nearness.{Denotes}
-use Rattle.conversions.specs.Letters.{lookup}
+use Rattle.letters.specs.Letters.{lookup}
 use Rattle.conversions.specs.Kinds.{integerKinds}
-use Rattle.rows.specs.Row.{isNull}
+use Rattle.entries.specs.Entry.{isNull}
 
 -- A number with a power of two was read, and it denotes the finite value with the bits b as demand 3 says for the precision p.
 pub record FloatRead (b : ℕ) (p : NumericParam) (r : Reading) : Type 0 where

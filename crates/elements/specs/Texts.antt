@@ -29,7 +29,7 @@ use Rattle.specifiers.specs.declared.Element.{Element}
 use Rattle.numbers.specs.Numbers.{widthOf, numeralText, floatMark, finiteText}
 use Rattle.scalars.specs.Scalars.{isScalar, utf8Of}
 use Rattle.strings.specs.Cut.{cutTo, cased}
-use Rattle.rows.specs.Row.{isNull}
+use Rattle.entries.specs.Entry.{isNull}
 
 -- Where the padding stands: `-` decides; "`0` pads with spaces" under %s, %c and %b.
 abbrev pub side : Flags → Adjust

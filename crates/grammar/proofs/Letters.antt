@@ -11,16 +11,16 @@ use borrow.Author.Tests.{eqb-true, ne-eqb}
 use Rattle.writing.specs.Choose.{choose}
 use Rattle.writing.specs.Text.{ascii, has}
 use Rattle.writing.proofs.Choose.{by-test, both}
-use Rattle.conversions.specs.Letters.{lookup, timeLetters as timeTable, timeOf, smallLetters, smallOf, capitalLetters, capitalOf}
+use Rattle.letters.specs.Letters.{lookup, timeLetters as timeTable, timeOf, smallLetters, smallOf, capitalLetters, capitalOf}
 use Rattle.conversions.specs.Kinds.{integerKinds, otherKinds, isIntegerKind, kindOf, fits}
-use Rattle.conversions.specs.declared.ConversionType.{ConversionType}
-use Rattle.conversions.specs.declared.ConversionType.the-variants.{Time}
+use Rattle.letters.specs.declared.ConversionType.{ConversionType}
+use Rattle.letters.specs.declared.ConversionType.the-variants.{Time}
 use Rattle.conversions.specs.declared.Kind.the-variants as K
 use Rattle.conversions.specs.declared.KindByte.the-variants.{Known, Unknown}
-use Rattle.conversions.specs.declared.Letter.{Letter}
-use Rattle.conversions.specs.declared.Letter.the-variants.{Conversion, NoConversion}
-use Rattle.conversions.specs.declared.TimeLetter.{TimeLetter}
-use Rattle.conversions.specs.declared.TimeLetter.the-variants.{Component, NoComponent}
+use Rattle.letters.specs.declared.Letter.{Letter}
+use Rattle.letters.specs.declared.Letter.the-variants.{Conversion, NoConversion}
+use Rattle.letters.specs.declared.TimeLetter.{TimeLetter}
+use Rattle.letters.specs.declared.TimeLetter.the-variants.{Component, NoComponent}
 use Rattle.specifiers.specs.Specifier.{capitalTaken, oneLetter, timeLetter, secondLetter, letterFrom}
 use Rattle.specifiers.specs.declared.LetterTaken.{LetterTaken}
 use Rattle.specifiers.specs.declared.LetterTaken.the-variants as L

@@ -8,7 +8,7 @@ use lib.ListN.{length, getD}
 use Rattle.refusals.specs.Limits.{mostPieces}
 use Rattle.writing.specs.Choose.{choose}
 use Rattle.conversions.specs.Kinds.{fits, fitsKind}
-use Rattle.conversions.specs.declared.ConversionType.{ConversionType}
+use Rattle.letters.specs.declared.ConversionType.{ConversionType}
 use Rattle.specifiers.specs.Specifier.{letterAt, afterLetter, partsAt, afterParts, specifierAt}
 use Rattle.specifiers.specs.declared.LetterTaken.{LetterTaken}
 use Rattle.specifiers.specs.declared.LetterTaken.the-variants as L

@@ -9,8 +9,8 @@ use lib.ListN.{length}
 use Rattle.writing.specs.Text.{ascii, has}
 use Rattle.numerals.specs.declared.Radix.the-variants.{Decimal, Octal, Hexadecimal}
 use Rattle.params.specs.declared.NumericParam.{NumericParam}
-use Rattle.conversions.specs.declared.ConversionType.{ConversionType}
-use Rattle.conversions.specs.declared.ConversionType.the-variants as C
+use Rattle.letters.specs.declared.ConversionType.{ConversionType}
+use Rattle.letters.specs.declared.ConversionType.the-variants as C
 use Rattle.params.specs.declared.NumericParam.the-variants.{Literal, FromArgument}
 use Rattle.specifiers.specs.Specifier.{letterFrom}
 use Rattle.specifiers.specs.declared.Element.{Element}

@@ -10,15 +10,15 @@ use lib.ListN.{length, getD, length-append}
 use lib.Seq.{getD-at}
 use Rattle.writing.specs.Choose.{choose}
 use Rattle.writing.specs.Text.{has}
-use Rattle.conversions.specs.Letters.{timeOf, smallOf, capitalOf}
+use Rattle.letters.specs.Letters.{timeOf, smallOf, capitalOf}
 use Rattle.conversions.specs.Kinds.{kindOf}
-use Rattle.conversions.specs.declared.ConversionType.{ConversionType}
+use Rattle.letters.specs.declared.ConversionType.{ConversionType}
 use Rattle.conversions.specs.declared.KindByte.{KindByte}
 use Rattle.conversions.specs.declared.KindByte.the-variants.{Known, Unknown}
-use Rattle.conversions.specs.declared.Letter.{Letter}
-use Rattle.conversions.specs.declared.Letter.the-variants.{Conversion, NoConversion}
-use Rattle.conversions.specs.declared.TimeLetter.{TimeLetter}
-use Rattle.conversions.specs.declared.TimeLetter.the-variants.{Component, NoComponent}
+use Rattle.letters.specs.declared.Letter.{Letter}
+use Rattle.letters.specs.declared.Letter.the-variants.{Conversion, NoConversion}
+use Rattle.letters.specs.declared.TimeLetter.{TimeLetter}
+use Rattle.letters.specs.declared.TimeLetter.the-variants.{Component, NoComponent}
 use Rattle.specifiers.specs.Specifier.{oneLetter, timeLetter, secondLetter, letterFrom}
 use Rattle.specifiers.specs.declared.Element.{Element}
 use Rattle.specifiers.specs.declared.LetterTaken.the-variants as L
@@ -35,7 +35,8 @@ use Rattle.grammar.proofs.Letters.{known-kind}
 use Rattle.grammar.proofs.Listed.{IsPart, nth-part}
 use Rattle.grammar.proofs.Readings.{Made, parts-of, read-whole, reads-bytes}
 use Rattle.grammar.proofs.Steps.{KindsKnown}
-use Rattle.rows.specs.Row.{countOf, kindsOf, kindByteOf, valueOf, textArea, isNull, entryOf, entryAt, isRow}
+use Rattle.entries.specs.Entry.{isNull, entryOf}
+use Rattle.rows.specs.Row.{countOf, kindsOf, kindByteOf, valueOf, textArea, entryAt, isRow}
 use Rattle.rows.proofs.Rows.{kinds-length, kind-byte, entry}
 use Rattle.columns.proofs.Letters.{NamedBy}
 use Rattle.outcomes.specs.Demand.{isTime}

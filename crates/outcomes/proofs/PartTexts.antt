@@ -10,8 +10,8 @@ use lib.ListN.{length, getD, take, drop}
 use lib.Seq.{take-append-seam, drop-append-seam, drop-drop}
 use Rattle.writing.specs.Text.{ascii, has}
 use Rattle.params.specs.declared.NumericParam.{NumericParam}
-use Rattle.conversions.specs.declared.ConversionType.{ConversionType}
-use Rattle.conversions.specs.declared.ConversionType.the-variants as C
+use Rattle.letters.specs.declared.ConversionType.{ConversionType}
+use Rattle.letters.specs.declared.ConversionType.the-variants as C
 use Rattle.specifiers.specs.declared.Element.{Element}
 use Rattle.parsing.specs.Listed.{Placed, placed}
 use Rattle.parsing.specs.declared.Piece.{Piece}

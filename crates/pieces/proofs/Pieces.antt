@@ -14,7 +14,8 @@ use Rattle.specifiers.specs.declared.Element.{Element}
 use Rattle.parsing.specs.declared.Piece.the-variants.{Element as AnElement}
 use Rattle.strings.specs.Cut.{cutTo}
 use Rattle.strings.proofs.Cuts.{cut-again}
-use Rattle.rows.specs.Row.{isNull, kindByteOf, valueOf, namedText}
+use Rattle.entries.specs.Entry.{isNull}
+use Rattle.rows.specs.Row.{kindByteOf, valueOf, namedText}
 use Rattle.rows.specs.Arguments.{Argument, isText, handedOut}
 use Rattle.rows.proofs.Rows.{kinds-length}
 use Rattle.elements.specs.Texts.{Shown, Text, Stops, paddedText, valueText, elementText, textOf, stopOf}

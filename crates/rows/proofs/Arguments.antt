@@ -12,7 +12,8 @@ use Rattle.writing.proofs.Choose.{by-test, both}
 use Rattle.conversions.specs.Kinds.{kindOf}
 use Rattle.conversions.specs.declared.Kind.the-variants as K
 use Rattle.conversions.specs.declared.KindByte.the-variants.{Known}
-use Rattle.rows.specs.Row.{countOf, textArea, kindByteOf, valueOf, isNull, namedText, entryOf, entryAt}
+use Rattle.entries.specs.Entry.{isNull, entryOf}
+use Rattle.rows.specs.Row.{countOf, textArea, kindByteOf, valueOf, namedText, entryAt}
 use Rattle.rows.specs.Arguments.{Argument, isText, handedOut}
 use Rattle.rows.proofs.Rows.{row-shape, text-length, entry}
 

@@ -8,7 +8,8 @@ use lib.ListN.{length, getD, take, drop}
 use borrow.Rule.Slice.PartAt.{part-to-end}
 use Rattle.conversions.specs.Kinds.{kindOf}
 use Rattle.words.specs.LittleEndian.{wordAt}
-use Rattle.rows.specs.Row.{countOf, isNull, entryOf, entryAt, entriesFrom}
+use Rattle.entries.specs.Entry.{isNull, entryOf}
+use Rattle.rows.specs.Row.{countOf, entryAt, entriesFrom}
 
 -- The entry with the index i + 1, by the places that the code reads.
 pub entry-read : (row : List ℕ) (n i v : ℕ) → n ≡ countOf row → v ≡ wordAt 8 row (6 + n + 8 * i)

@@ -1,4 +1,3 @@
-pub mod Widths
 mod Entries
 pub mod Rows
 mod Arguments

@@ -5,18 +5,9 @@ use mathlib.Core.Bool.{Bool, true}
 use mathlib.Core.List.{List, []}
 use lib.Dec.{eqb}
 use Rattle.writing.specs.Choose.{choose}
-use Rattle.conversions.specs.declared.Kind.{Kind}
-use Rattle.conversions.specs.declared.Kind.the-variants as K
 use Rattle.rows.specs.Row.{countOf, kindByteOf, namedText, isRow}
 use Rattle.rows.specs.declared.RowRead.{RowRead}
 use Rattle.rows.specs.declared.RowRead.the-variants.{Row, Broken}
-
--- An integer kind has a width from 1 to 64.
-abbrev pub HasWidth : Kind → Type 0
-HasWidth (K.Signed w) = (1 ≤ w) × (w ≤ 64)
-HasWidth K.Float64 = Unit {0}
-HasWidth K.Boolean = Unit {0}
-HasWidth K.Text = Unit {0}
 
 -- An argument of a row that keeps its layout.
 pub record Argument (row : List ℕ) (a : ℕ) : Type 0 where

@@ -1,13 +1,9 @@
 // The row of values: its layout tested, and the kind and value of each argument.
-use conversions::Kind;
-use conversions::KindByte;
 ghost use mathlib.Core.Path.{_≡_};
-ghost use mathlib.Core.List.{[]};
-ghost use Prim.Native.Nat.{_+_, _*_, _%_, _^_, _≤_, _<_};
-ghost use Rattle.conversions.specs.Kinds.{kindOf};
+ghost use Prim.Native.Nat.{_+_, _*_, _^_, _≤_, _<_};
 ghost use lib.ListN.{length};
-ghost use Rattle.rows.specs.Row.{countOf, kindByteOf, valueOf, isNull, holds, canBeNull, entryOf, entriesFrom};
-ghost use Rattle.rows.specs.Arguments.{HasWidth, Argument, rowOf, isText, handedOut};
+ghost use Rattle.rows.specs.Row.{countOf, kindByteOf, valueOf, entriesFrom};
+ghost use Rattle.rows.specs.Arguments.{Argument, rowOf, isText, handedOut};
 
 // How many arguments a row says it has.
 fn count_of(row: &[u8]) -> usize
@@ -15,70 +11,6 @@ fn count_of(row: &[u8]) -> usize
     ensures { λ r. ⌜ r ≡ countOf (now (row .entry)) ⌝ }
 {
     words::two(row, 0) as usize
-}
-
-// Whether a value is a signed integer of this width, sign-extended to 64 bits.
-fn is_signed(width: u32, value: u64) -> bool
-    requires { ⌜ (1 ≤ width) × (width ≤ 64) ⌝ }
-    ensures { λ r. ⌜ r ≡ holds (Kind.Signed width) [] value ⌝ }
-{
-    let half = 1u64 << (width - 1);
-    if value < half {
-        return true;
-    }
-    std::num::wrapping_sub_u64(0, half) <= value
-}
-
-// Whether a value names a part of the text area that is well-formed UTF-8.
-fn is_part(text: &[u8], value: u64) -> bool
-    ensures { λ r. ⌜ r ≡ holds Kind.Text (now (text .entry)) value ⌝ }
-{
-    let offset = (value % 4294967296) as usize;
-    let len = (value / 4294967296) as usize;
-    if text.len() < offset + len {
-        return false;
-    }
-    utf8::is_well_formed(&text[offset..offset + len])
-}
-
-// Whether a value is one of its kind; text is the row's text area.
-fn is_value(kind: Kind, text: &[u8], value: u64) -> bool
-    requires { ⌜ HasWidth kind ⌝ }
-    ensures { λ r. ⌜ r ≡ holds kind (now (text .entry)) value ⌝ }
-{
-    match kind {
-        Kind::Signed(width) => is_signed(width, value),
-        Kind::Float64 => true,
-        Kind::Boolean => value <= 1,
-        Kind::Text => is_part(text, value),
-    }
-}
-
-fn can_be_null(kind: Kind) -> bool
-    ensures { λ r. ⌜ r ≡ canBeNull kind ⌝ }
-{
-    match kind {
-        Kind::Signed(_) => true,
-        Kind::Float64 => false,
-        Kind::Boolean => true,
-        Kind::Text => false,
-    }
-}
-
-// Whether a kind byte and a value make an entry.
-fn is_entry(byte: u8, text: &[u8], value: u64) -> bool
-    ensures { λ r. ⌜ r ≡ entryOf (kindOf (byte % 128)) (isNull byte) (now (text .entry)) value ⌝ }
-{
-    let KindByte::Known(kind) = conversions::kind_of(byte % 128) else {
-        return false;
-    };
-    if byte < 128 {
-        return is_value(kind, text, value);
-    }
-    if value == 0 {
-        return can_be_null(kind);
-    }
-    false
 }
 
 // Whether the n entries of a row are entries.
@@ -90,7 +22,7 @@ fn are_entries(row: &[u8], n: usize) -> bool
     let mut i = 0;
     while i < n {
         let value = words::eight(row, 6 + n + 8 * i);
-        if !is_entry(row[6 + i], &row[text..], value) {
+        if !entries::is_entry(row[6 + i], &row[text..], value) {
             return false;
         }
         i = i + 1;

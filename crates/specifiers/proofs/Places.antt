@@ -16,12 +16,12 @@ use Rattle.params.specs.declared.Number.the-variants as N
 use Rattle.params.specs.declared.Taken.{Taken}
 use Rattle.params.specs.declared.Taken.the-variants.{Param, TooLarge}
 use Rattle.params.proofs.Params.{NumberIn, number-in}
-use Rattle.conversions.specs.Letters.{timeOf, smallOf, capitalOf}
+use Rattle.letters.specs.Letters.{timeOf, smallOf, capitalOf}
 use Rattle.conversions.specs.Kinds.{fitsKind}
-use Rattle.conversions.specs.declared.Letter.{Letter}
-use Rattle.conversions.specs.declared.Letter.the-variants.{Conversion, NoConversion}
-use Rattle.conversions.specs.declared.TimeLetter.{TimeLetter}
-use Rattle.conversions.specs.declared.TimeLetter.the-variants.{Component, NoComponent}
+use Rattle.letters.specs.declared.Letter.{Letter}
+use Rattle.letters.specs.declared.Letter.the-variants.{Conversion, NoConversion}
+use Rattle.letters.specs.declared.TimeLetter.{TimeLetter}
+use Rattle.letters.specs.declared.TimeLetter.the-variants.{Component, NoComponent}
 use Rattle.specifiers.specs.Flags.{leadingFlags, firstClash, flagsTaken, flagsAt}
 use Rattle.specifiers.specs.Specifier.{beginsWith, precisionAt, afterPrecision, afterWidth, afterFlags, partsAt}
 use Rattle.specifiers.specs.Specifier.{capitalTaken, oneLetter, timeLetter, secondLetter, letterFrom, letterAt}

@@ -11,14 +11,14 @@ use Rattle.params.specs.declared.NumericParam.{NumericParam}
 use Rattle.params.specs.declared.NumericParam.the-variants.{FromArgument}
 use Rattle.params.specs.declared.Taken.{Taken}
 use Rattle.params.specs.declared.Taken.the-variants.{Param, TooLarge}
-use Rattle.conversions.specs.Letters.{timeOf, smallOf, capitalOf}
+use Rattle.letters.specs.Letters.{timeOf, smallOf, capitalOf}
 use Rattle.conversions.specs.Kinds.{fitsKind}
-use Rattle.conversions.specs.declared.ConversionType.{ConversionType}
-use Rattle.conversions.specs.declared.ConversionType.the-variants.{Time}
-use Rattle.conversions.specs.declared.Letter.{Letter}
-use Rattle.conversions.specs.declared.Letter.the-variants.{Conversion, NoConversion}
-use Rattle.conversions.specs.declared.TimeLetter.{TimeLetter}
-use Rattle.conversions.specs.declared.TimeLetter.the-variants.{Component, NoComponent}
+use Rattle.letters.specs.declared.ConversionType.{ConversionType}
+use Rattle.letters.specs.declared.ConversionType.the-variants.{Time}
+use Rattle.letters.specs.declared.Letter.{Letter}
+use Rattle.letters.specs.declared.Letter.the-variants.{Conversion, NoConversion}
+use Rattle.letters.specs.declared.TimeLetter.{TimeLetter}
+use Rattle.letters.specs.declared.TimeLetter.the-variants.{Component, NoComponent}
 use Rattle.specifiers.specs.Flags.{flagsAt}
 use Rattle.specifiers.specs.declared.Flags.{Flags}
 use Rattle.specifiers.specs.declared.FlagsTaken.{FlagsTaken}

@@ -1,8 +1,8 @@
 // What stands behind an element's index: flags, width, precision and letter.
 // Ported from format_string.rs of datafusion-spark 55.2.0 (Apache-2.0; see NOTICE): take_conversion_specifier.
-use conversions::ConversionType;
-use conversions::Letter;
-use conversions::TimeLetter;
+use letters::ConversionType;
+use letters::Letter;
+use letters::TimeLetter;
 use params::NumericParam;
 use params::Taken;
 ghost use mathlib.Core.Path.{_≡_};
@@ -216,7 +216,7 @@ fn take_time_letter(fmt: &[u8], at: usize, upper: bool) -> LetterTaken
             number: refusals::NO_TIME_LETTER,
         };
     }
-    let TimeLetter::Component(x) = conversions::time_of(fmt[second]) else {
+    let TimeLetter::Component(x) = letters::time_of(fmt[second]) else {
         return LetterTaken::Refused {
             number: refusals::NO_TIME_LETTER,
         };
@@ -244,8 +244,8 @@ fn take_letter(fmt: &[u8], at: usize) -> LetterTaken
     if b == b'T' {
         return take_time_letter(fmt, at, true);
     }
-    let Letter::Conversion(c) = conversions::small_letter(b) else {
-        let Letter::Conversion(d) = conversions::capital_letter(b) else {
+    let Letter::Conversion(c) = letters::small_letter(b) else {
+        let Letter::Conversion(d) = letters::capital_letter(b) else {
             return LetterTaken::Refused {
                 number: refusals::NO_LETTER,
             };

@@ -1,7 +1,7 @@
--- `rows::is_value` meets its contract. Assumes nothing.
+-- `entries::is_value` meets its contract. Assumes nothing.
 use borrow.Author.Needs.{needs}
-use Rattle.rows.proofs.is_value.Statement.{statement}
-use Rattle.rows.proofs.is_value.Tie as tie
+use Rattle.entries.proofs.is_value.Statement.{statement}
+use Rattle.entries.proofs.is_value.Tie as tie
 
 enum-known-kind : tie.Need-enum-known-kind
 enum-known-kind c = search needs

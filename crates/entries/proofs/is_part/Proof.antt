@@ -1,9 +1,9 @@
--- `rows::is_part` meets its contract. Assumes nothing.
+-- `entries::is_part` meets its contract. Assumes nothing.
 use native.Mathlib.Nat.{add-sub-cancel-left}
 use borrow.Author.Tests.{le-leb, lt-leb}
 use borrow.Author.Needs.{needs}
-use Rattle.rows.proofs.is_part.Statement.{statement}
-use Rattle.rows.proofs.is_part.Tie as tie
+use Rattle.entries.proofs.is_part.Statement.{statement}
+use Rattle.entries.proofs.is_part.Tie as tie
 
 add-if1 : tie.Need-add-if1
 add-if1 c = search needs

@@ -4,15 +4,15 @@ use Prim.Native.Char.{Char, code}
 use mathlib.Core.List.{List, [], _∷_}
 use lib.Dec.{eqb}
 use Rattle.writing.specs.Choose.{choose}
-use Rattle.conversions.specs.declared.TimeFormat.{TimeFormat}
-use Rattle.conversions.specs.declared.TimeFormat.the-variants as T
-use Rattle.conversions.specs.declared.ConversionType.{ConversionType}
-use Rattle.conversions.specs.declared.ConversionType.the-variants as C
+use Rattle.letters.specs.declared.TimeFormat.{TimeFormat}
+use Rattle.letters.specs.declared.TimeFormat.the-variants as T
+use Rattle.letters.specs.declared.ConversionType.{ConversionType}
+use Rattle.letters.specs.declared.ConversionType.the-variants as C
 use Rattle.numerals.specs.declared.Radix.the-variants.{Decimal, Octal, Hexadecimal}
-use Rattle.conversions.specs.declared.TimeLetter.{TimeLetter}
-use Rattle.conversions.specs.declared.TimeLetter.the-variants.{Component, NoComponent}
-use Rattle.conversions.specs.declared.Letter.{Letter}
-use Rattle.conversions.specs.declared.Letter.the-variants.{Conversion, NoConversion}
+use Rattle.letters.specs.declared.TimeLetter.{TimeLetter}
+use Rattle.letters.specs.declared.TimeLetter.the-variants.{Component, NoComponent}
+use Rattle.letters.specs.declared.Letter.{Letter}
+use Rattle.letters.specs.declared.Letter.the-variants.{Conversion, NoConversion}
 
 -- A table of names by number or letter: what stands in the row whose key is b, or `others` where no row has it.
 abbrev pub lookup : {K A B : Type 0} → (K → ℕ) → (A → B) → B → List (K × A) → ℕ → B

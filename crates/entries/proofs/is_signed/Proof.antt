@@ -1,14 +1,14 @@
--- `rows::is_signed` meets its contract. Assumes nothing.
+-- `entries::is_signed` meets its contract. Assumes nothing.
 use Prim.Native.Nat.{ℕ, _-_, _^_, _≤_, _<_}
 use mathlib.Core.Path.{_≡_, ap, subst}
 use native.Mathlib.Omega.{arith}
 use lib.Dec.{leb}
 use lib.Pow.{pow-pos}
 use borrow.Author.Tests.{lt-ltb, le-ltb}
-use Rattle.rows.proofs.Widths.{one-bit}
+use Rattle.entries.proofs.Widths.{one-bit}
 use borrow.Author.Needs.{needs}
-use Rattle.rows.proofs.is_signed.Statement.{statement}
-use Rattle.rows.proofs.is_signed.Tie as tie
+use Rattle.entries.proofs.is_signed.Statement.{statement}
+use Rattle.entries.proofs.is_signed.Tie as tie
 
 sub-half : tie.Need-sub-half
 sub-half c = search needs

@@ -1,9 +1,9 @@
--- `conversions::time_of` meets its contract: an argument for each letter, and one for a byte that is none of them. Assumes nothing.
+-- `letters::time_of` meets its contract: an argument for each letter, and one for a byte that is none of them. Assumes nothing.
 use mathlib.Core.Path.{sym, ap}
 use borrow.Author.Tests.{ne-eqb}
-use Rattle.conversions.specs.Letters.{timeOf}
-use Rattle.conversions.proofs.time_of.Statement.{statement}
-use Rattle.conversions.proofs.time_of.Tie as tie
+use Rattle.letters.specs.Letters.{timeOf}
+use Rattle.letters.proofs.time_of.Statement.{statement}
+use Rattle.letters.proofs.time_of.Tie as tie
 
 no-letter : tie.Need-returns-32
 unfolding timeOf

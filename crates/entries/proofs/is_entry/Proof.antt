@@ -1,14 +1,14 @@
--- `rows::is_entry` meets its contract. Assumes nothing.
+-- `entries::is_entry` meets its contract. Assumes nothing.
 use Prim.Native.Nat.{_%_}
 use mathlib.Core.Path.{_≡_, sym, _∙_}
 use mathlib.Core.Bool.{and-true, and-false}
 use borrow.Author.Tests.{le-leb, lt-leb, eq-eqb, ne-eqb}
 use Rattle.conversions.specs.Kinds.{kindOf}
 use Rattle.conversions.specs.declared.KindByte.the-variants.{Known}
-use Rattle.rows.proofs.Widths.{has-width}
+use Rattle.entries.proofs.Widths.{has-width}
 use borrow.Author.Needs.{needs}
-use Rattle.rows.proofs.is_entry.Statement.{statement}
-use Rattle.rows.proofs.is_entry.Tie as tie
+use Rattle.entries.proofs.is_entry.Statement.{statement}
+use Rattle.entries.proofs.is_entry.Tie as tie
 
 kind-of-requires : tie.Need-kind-of-requires
 kind-of-requires c κs = search needs

@@ -8,12 +8,12 @@ use lib.Dec.{eqb}
 use lib.Pow.{pow-lt}
 use Rattle.writing.proofs.Choose.{by-test}
 use Rattle.conversions.specs.Kinds.{integerKinds, otherKinds, kindOf}
-use Rattle.conversions.specs.Letters.{lookup}
+use Rattle.letters.specs.Letters.{lookup}
 use Rattle.conversions.specs.declared.Kind.{Kind}
 use Rattle.conversions.specs.declared.Kind.the-variants as K
 use Rattle.conversions.specs.declared.KindByte.{KindByte}
 use Rattle.conversions.specs.declared.KindByte.the-variants.{Known, Unknown}
-use Rattle.rows.specs.Arguments.{HasWidth}
+use Rattle.entries.specs.Widths.{HasWidth}
 
 -- that the kind of a byte, where it is known, has a width
 unfoldable ByteWidth : KindByte → Type 0
