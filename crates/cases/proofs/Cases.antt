@@ -14,7 +14,7 @@ use Rattle.binary64.specs.Rounding.{nearestTo, keptDigits}
 use Rattle.utf8.specs.Utf8.{leadOf, wellFormedFrom, wellFormed}
 use Rattle.conversions.specs.Letters.{smallOf, capitalOf}
 use Rattle.conversions.specs.Kinds.{kindOf, isIntegerKind, integerForm, fitsKind, printsAs}
-use Rattle.specifiers.specs.Flags.{leadingFlags, firstClash, flagsAt}
+use Rattle.flags.specs.Flags.{leadingFlags, firstClash, flagsAt}
 use Rattle.specifiers.specs.Specifier.{precisionAt, letterAt, partsAt, specifierAt}
 use Rattle.parsing.specs.Pieces.{textLength, indexAt, argumentAt, elementAt, pieceAt}
 use Rattle.parsing.specs.Listed.{placedFrom, endFrom, placed, ended}

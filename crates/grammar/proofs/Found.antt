@@ -9,7 +9,7 @@ use native.Mathlib.Omega.{arith}
 use lib.Dec.{eqb}
 use lib.ListN.{length, getD, drop, length-append, length-drop}
 use Rattle.writing.specs.Text.{ascii}
-use Rattle.specifiers.specs.Flags.{flagsOf}
+use Rattle.flags.specs.Flags.{flagsOf}
 use Rattle.specifiers.specs.Specifier.{beginsWith, letterFrom, specifierAt}
 use Rattle.specifiers.specs.declared.Element.{Element}
 use Rattle.specifiers.specs.declared.LetterTaken.the-variants as L

@@ -13,9 +13,9 @@ use Rattle.writing.specs.Text.{ascii, has}
 use Rattle.params.specs.Params.{isDigit, isParam, paramAt}
 use Rattle.params.specs.declared.NumericParam.the-variants.{FromArgument}
 use Rattle.params.specs.declared.Taken.the-variants.{Param}
-use Rattle.specifiers.specs.Flags.{flagsOf, flagsAt}
+use Rattle.flags.specs.Flags.{flagsOf, flagsAt}
 use Rattle.specifiers.specs.Specifier.{beginsWith, precisionAt, letterFrom, letterAt, partsAt, afterLetter, specifierAt}
-use Rattle.specifiers.specs.declared.FlagsTaken.the-variants as F
+use Rattle.flags.specs.declared.FlagsTaken.the-variants as F
 use Rattle.specifiers.specs.declared.Parts.{Parts}
 use Rattle.specifiers.specs.declared.Specifier.{Specifier}
 use Rattle.specifiers.specs.declared.Specifier.the-variants as S

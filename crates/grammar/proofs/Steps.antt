@@ -11,7 +11,7 @@ use borrow.Author.Tests.{eq-eqb, lt-leb}
 use Rattle.writing.specs.Text.{ascii, has}
 use Rattle.params.specs.Params.{isDigit}
 use Rattle.conversions.specs.Kinds.{fitsKind}
-use Rattle.specifiers.specs.Flags.{flagsOf}
+use Rattle.flags.specs.Flags.{flagsOf}
 use Rattle.specifiers.specs.Specifier.{beginsWith, afterLetter, specifierAt}
 use Rattle.specifiers.specs.declared.LetterTaken.the-variants as L
 use Rattle.specifiers.specs.declared.Specifier.the-variants as S

@@ -8,9 +8,9 @@ use lib.ListN.{length, getD, drop}
 use native.Mathlib.Decide.{decLt}
 use native.Mathlib.Omega.{arith}
 use borrow.Author.Tests.{eq-eqb, ne-eqb, le-leb, lt-leb}
+use Rattle.writing.proofs.Bytes.{byte-at, no-byte}
 use Rattle.params.specs.Params.{beginsParam, isParam}
 use Rattle.conversions.specs.Kinds.{kindOf}
-use Rattle.specifiers.proofs.Bytes.{byte-at, no-byte}
 use Rattle.parsing.specs.Pieces.{textLength}
 use Rattle.parsing.specs.Check.{isKnown, allKnown}
 

@@ -8,9 +8,9 @@ use lib.Dec.{eqb}
 use lib.ListN.{length, drop}
 use Rattle.writing.specs.Choose.{choose}
 use Rattle.writing.specs.Text.{ascii, has}
-use Rattle.specifiers.specs.declared.Flags.{Flags}
-use Rattle.specifiers.specs.declared.FlagsTaken.{FlagsTaken}
-use Rattle.specifiers.specs.declared.FlagsTaken.the-variants.{Read, Refused}
+use Rattle.flags.specs.declared.Flags.{Flags}
+use Rattle.flags.specs.declared.FlagsTaken.{FlagsTaken}
+use Rattle.flags.specs.declared.FlagsTaken.the-variants.{Read, Refused}
 
 abbrev pub isFlag : ℕ → Bool
 isFlag b = has (ascii "#0- +,(") b

@@ -1,9 +1,9 @@
--- `specifiers::with_flag` meets its contract: an argument for each clash and each flag, and one for a byte that is no flag. Assumes nothing.
+-- `flags::with_flag` meets its contract: an argument for each clash and each flag, and one for a byte that is no flag. Assumes nothing.
 use Rattle.writing.specs.Text.{has}
-use Rattle.specifiers.proofs.Bytes.{other}
-use Rattle.specifiers.proofs.Runs.{has-more}
-use Rattle.specifiers.proofs.with_flag.Statement.{statement}
-use Rattle.specifiers.proofs.with_flag.Tie as tie
+use Rattle.writing.proofs.Bytes.{other}
+use Rattle.flags.proofs.Runs.{has-more}
+use Rattle.flags.proofs.with_flag.Statement.{statement}
+use Rattle.flags.proofs.with_flag.Tie as tie
 
 pub with-flag-spec : {M : Type 1} → statement M
 unfolding has

@@ -1,11 +1,11 @@
--- `specifiers::take_flags` meets its contract. The loop's invariant: the flags up to i are read, and say what the code's say. Assumes nothing.
+-- `flags::take_flags` meets its contract. The loop's invariant: the flags up to i are read, and say what the code's say. Assumes nothing.
 use Prim.Native.Nat.{_-_}
 use lib.ListN.{length}
 use native.Mathlib.Omega.{arith}
 use borrow.Author.Needs.{needs}
-use Rattle.specifiers.proofs.Runs.{FlagsTo, flags-none, flags-end, Turned, flags-turn}
-use Rattle.specifiers.proofs.take_flags.Statement.{statement}
-use Rattle.specifiers.proofs.take_flags.Tie as tie
+use Rattle.flags.proofs.Runs.{FlagsTo, flags-none, flags-end, Turned, flags-turn}
+use Rattle.flags.proofs.take_flags.Statement.{statement}
+use Rattle.flags.proofs.take_flags.Tie as tie
 
 abbrev Inv-loop : tie.InvT-loop
 Inv-loop fmt at i₀ flags₀ i flags = FlagsTo fmt at i flags

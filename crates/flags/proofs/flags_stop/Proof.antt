@@ -1,7 +1,7 @@
--- `specifiers::flags_stop` meets its contract. Assumes nothing.
+-- `flags::flags_stop` meets its contract. Assumes nothing.
 use borrow.Author.Needs.{needs}
-use Rattle.specifiers.proofs.flags_stop.Statement.{statement}
-use Rattle.specifiers.proofs.flags_stop.Tie as tie
+use Rattle.flags.proofs.flags_stop.Statement.{statement}
+use Rattle.flags.proofs.flags_stop.Tie as tie
 
 pub flags-stop-spec : {M : Type 1} → statement M
 flags-stop-spec =

@@ -9,15 +9,15 @@ use lib.Dec.{eqb}
 use lib.ListN.{length, getD, drop, length-append}
 use Rattle.writing.specs.Choose.{choose}
 use Rattle.writing.specs.Text.{has}
-use Rattle.specifiers.specs.Flags.{isFlag, leadingFlags, flagsOf, clash, firstClash, flagsTaken, flagsAt}
-use Rattle.specifiers.specs.Refusals.{unlessClash, stepOf, StopHanded}
-use Rattle.specifiers.specs.declared.Flags.{Flags}
-use Rattle.specifiers.specs.declared.FlagStep.{FlagStep}
-use Rattle.specifiers.specs.declared.FlagStep.the-variants.{Set, Stops}
-use Rattle.specifiers.specs.declared.FlagStop.the-variants.{NoFlag}
-use Rattle.specifiers.specs.declared.FlagsTaken.{FlagsTaken}
-use Rattle.specifiers.specs.declared.FlagsTaken.the-variants.{Read}
-use Rattle.specifiers.proofs.Bytes.{byte-at, no-byte}
+use Rattle.flags.specs.Flags.{isFlag, leadingFlags, flagsOf, clash, firstClash, flagsTaken, flagsAt}
+use Rattle.flags.specs.Steps.{unlessClash, stepOf, StopHanded}
+use Rattle.flags.specs.declared.Flags.{Flags}
+use Rattle.flags.specs.declared.FlagStep.{FlagStep}
+use Rattle.flags.specs.declared.FlagStep.the-variants.{Set, Stops}
+use Rattle.flags.specs.declared.FlagStop.the-variants.{NoFlag}
+use Rattle.flags.specs.declared.FlagsTaken.{FlagsTaken}
+use Rattle.flags.specs.declared.FlagsTaken.the-variants.{Read}
+use Rattle.writing.proofs.Bytes.{byte-at, no-byte}
 
 -- one byte more
 pub has-more : (bs : List ℕ) (b c : ℕ) → has (bs ++ (b ∷ [])) c ≡ (eqb b c || has bs c)
