@@ -16,7 +16,8 @@ use Rattle.conversions.specs.Letters.{smallOf, capitalOf}
 use Rattle.conversions.specs.Kinds.{kindOf, isIntegerKind, integerForm, fitsKind, printsAs}
 use Rattle.flags.specs.Flags.{leadingFlags, firstClash, flagsAt}
 use Rattle.specifiers.specs.Specifier.{precisionAt, letterAt, partsAt, specifierAt}
-use Rattle.parsing.specs.Pieces.{textLength, indexAt, argumentAt, elementAt, pieceAt}
+use Rattle.arguments.specs.Indexes.{indexAt}
+use Rattle.parsing.specs.Pieces.{textLength, argumentAt, elementAt, pieceAt}
 use Rattle.parsing.specs.Listed.{placedFrom, endFrom, placed, ended}
 use Rattle.strings.specs.Cut.{capital, backTo, cutLength, cutTo, cased}
 use Rattle.strings.specs.Scalars.{utf8Of}

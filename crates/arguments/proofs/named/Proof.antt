@@ -1,7 +1,7 @@
--- `parsing::named` meets its contract. Assumes nothing.
+-- `arguments::named` meets its contract. Assumes nothing.
 use borrow.Author.Tests.{le-leb, lt-leb}
-use Rattle.parsing.proofs.named.Statement.{statement}
-use Rattle.parsing.proofs.named.Tie as tie
+use Rattle.arguments.proofs.named.Statement.{statement}
+use Rattle.arguments.proofs.named.Tie as tie
 
 returns : tie.Need-returns
 returns c = simp (lt-leb _ _ (c .if1 .taken))

@@ -1,13 +1,13 @@
--- `parsing::take_index` meets its contract. Assumes nothing.
+-- `arguments::take_index` meets its contract. Assumes nothing.
 use mathlib.Core.Path.{_≡_, sym, _∙_}
 use Prim.Native.Nat.{_+_, _≤_, _<_}
 use native.Mathlib.Omega.{arith}
 use borrow.Author.Tests.{le-leb, lt-leb}
-use Rattle.parsing.specs.Pieces.{indexOf, indexAt}
-use Rattle.parsing.proofs.Indexes.{index-inside}
+use Rattle.arguments.specs.Indexes.{indexOf, indexAt}
+use Rattle.arguments.proofs.Indexes.{index-inside}
 use borrow.Author.Needs.{needs}
-use Rattle.parsing.proofs.take_index.Statement.{statement}
-use Rattle.parsing.proofs.take_index.Tie as tie
+use Rattle.arguments.proofs.take_index.Statement.{statement}
+use Rattle.arguments.proofs.take_index.Tie as tie
 
 is-byte-requires : tie.Need-is-byte-requires
 is-byte-requires c κs = search needs

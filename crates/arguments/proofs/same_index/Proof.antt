@@ -1,8 +1,8 @@
--- `parsing::same_index` meets its contract. Assumes nothing.
+-- `arguments::same_index` meets its contract. Assumes nothing.
 use borrow.Author.Tests.{eq-eqb, ne-eqb}
 use borrow.Author.Needs.{needs}
-use Rattle.parsing.proofs.same_index.Statement.{statement}
-use Rattle.parsing.proofs.same_index.Tie as tie
+use Rattle.arguments.proofs.same_index.Statement.{statement}
+use Rattle.arguments.proofs.same_index.Tie as tie
 
 returns : tie.Need-returns
 returns c = simp (eq-eqb _ _ (c .if1 .taken))

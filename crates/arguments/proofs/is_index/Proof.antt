@@ -1,8 +1,8 @@
--- `parsing::is_index` meets its contract. Assumes nothing.
-use Rattle.parsing.proofs.Runs.{begins-none, begins-small, begins-large, begins-digit}
+-- `arguments::is_index` meets its contract. Assumes nothing.
+use Rattle.arguments.proofs.Digits.{begins-none, begins-small, begins-large, begins-digit}
 use borrow.Author.Needs.{needs}
-use Rattle.parsing.proofs.is_index.Statement.{statement}
-use Rattle.parsing.proofs.is_index.Tie as tie
+use Rattle.arguments.proofs.is_index.Statement.{statement}
+use Rattle.arguments.proofs.is_index.Tie as tie
 
 shared-slice-read-if2 : tie.Need-shared-slice-read-if2
 shared-slice-read-if2 c = search needs
