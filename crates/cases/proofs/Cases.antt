@@ -17,7 +17,8 @@ use Rattle.conversions.specs.Kinds.{kindOf, isIntegerKind, integerForm, fitsKin
 use Rattle.flags.specs.Flags.{leadingFlags, firstClash, flagsAt}
 use Rattle.specifiers.specs.Specifier.{precisionAt, letterAt, partsAt, specifierAt}
 use Rattle.arguments.specs.Indexes.{indexAt}
-use Rattle.parsing.specs.Pieces.{textLength, argumentAt, elementAt, pieceAt}
+use Rattle.scanning.specs.Texts.{textLength}
+use Rattle.parsing.specs.Pieces.{argumentAt, elementAt, pieceAt}
 use Rattle.parsing.specs.Listed.{placedFrom, endFrom, placed, ended}
 use Rattle.strings.specs.Cut.{capital, backTo, cutLength, cutTo, cased}
 use Rattle.strings.specs.Scalars.{utf8Of}

@@ -14,7 +14,8 @@ use Rattle.specifiers.specs.Specifier.{beginsWith, letterFrom, specifierAt}
 use Rattle.specifiers.specs.declared.Element.{Element}
 use Rattle.specifiers.specs.declared.LetterTaken.the-variants as L
 use Rattle.specifiers.specs.declared.Specifier.the-variants as S
-use Rattle.parsing.specs.Pieces.{passed, textLength, afterSpecifier, pieceAt}
+use Rattle.scanning.specs.Texts.{textLength}
+use Rattle.parsing.specs.Pieces.{passed, afterSpecifier, pieceAt}
 use Rattle.parsing.specs.declared.Cursor.{Cursor}
 use Rattle.parsing.specs.declared.Piece.{Piece}
 use Rattle.parsing.specs.declared.Piece.the-variants.{Fixed, Byte, Element as AnElement}

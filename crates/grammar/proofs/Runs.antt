@@ -10,7 +10,7 @@ use Rattle.writing.specs.Choose.{choose}
 use Rattle.writing.proofs.Choose.{by-test, both}
 use Rattle.params.specs.Params.{isDigit, leadingDigits}
 use Rattle.flags.specs.Flags.{leadingFlags}
-use Rattle.parsing.specs.Pieces.{textLength}
+use Rattle.scanning.specs.Texts.{textLength}
 use Rattle.grammar.specs.Runs.{begins, all, Run}
 use Rattle.grammar.specs.Elements.{isFlag}
 

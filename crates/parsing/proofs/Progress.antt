@@ -16,7 +16,8 @@ use Rattle.specifiers.proofs.Places.{SpecifierIn, specifier-in}
 use Rattle.arguments.specs.declared.Index.{Index}
 use Rattle.arguments.specs.declared.Index.the-variants as I
 use Rattle.arguments.proofs.Indexes.{NamedIn}
-use Rattle.parsing.specs.Pieces.{passed, textLength, argumentAt, afterSpecifier, afterIndex, elementAt, pieceAt}
+use Rattle.scanning.specs.Texts.{textLength}
+use Rattle.parsing.specs.Pieces.{passed, argumentAt, afterSpecifier, afterIndex, elementAt, pieceAt}
 use Rattle.parsing.specs.declared.Piece.{Piece}
 use Rattle.parsing.specs.declared.Cursor.{Cursor}
 use Rattle.parsing.specs.declared.Step.{Step}

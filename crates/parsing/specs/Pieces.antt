@@ -1,8 +1,7 @@
 -- The next piece of a format from a cursor on. 01, "A format checked".
-use Prim.Native.Nat.{ℕ, suc, _+_, _-_}
+use Prim.Native.Nat.{ℕ, _+_, _-_}
 use Prim.Native.Char.{code}
-use mathlib.Core.List.{List, [], _∷_}
-use lib.Dec.{eqb}
+use mathlib.Core.List.{List}
 use lib.ListN.{length, getD, drop}
 use Rattle.writing.specs.Choose.{choose}
 use Rattle.specifiers.specs.Specifier.{beginsWith, specifierAt}
@@ -11,6 +10,7 @@ use Rattle.specifiers.specs.declared.Specifier.the-variants as S
 use Rattle.arguments.specs.Indexes.{indexAt, sameIndex}
 use Rattle.arguments.specs.declared.Index.{Index}
 use Rattle.arguments.specs.declared.Index.the-variants as I
+use Rattle.scanning.specs.Texts.{textLength}
 use Rattle.parsing.specs.declared.Piece.the-variants.{Fixed, Byte, Element as AnElement}
 use Rattle.parsing.specs.declared.Cursor.{Cursor}
 use Rattle.parsing.specs.declared.Step.{Step}
@@ -23,11 +23,6 @@ start = record { at = 0; count = 0; last = 0 }
 -- Behind a piece that uses no argument.
 abbrev pub passed : Cursor → ℕ → Cursor
 passed c at = record { at = at; count = c .count; last = c .last }
-
--- "Non-empty text up to the next `%` is one piece."
-unfoldable pub textLength : List ℕ → ℕ
-textLength [] = 0
-textLength (b ∷ bs) = choose (eqb b (code "%")) (λ _. 0) (λ _. suc (textLength bs))
 
 -- The argument of an element named either way, the cursor standing at its `%`.
 unfoldable pub argumentAt : List ℕ → ℕ → Cursor → Index

@@ -1,8 +1,6 @@
 // Reading a format: the next piece from a cursor on. A format checked against kinds is a pass over its pieces, which stands in `printing`.
 // Ported from format_string.rs of datafusion-spark 55.2.0 (Apache-2.0; see NOTICE): Formatter::parse. The original keeps a
 // vector of elements; here a cursor reads the format again from an offset.
-mod scan;
-
 use arguments::Index;
 use specifiers::Element;
 use specifiers::Specifier;
@@ -133,7 +131,7 @@ pub fn next_piece(fmt: &[u8], kinds: &[u8], c: Cursor) -> Step
     }
     let second = at + 1;
     if fmt[at] != b'%' {
-        let n = scan::text_len(&fmt[at..]);
+        let n = scanning::text_len(&fmt[at..]);
         return Step::Found {
             piece: Piece::Fixed { start: at, len: n },
             next: passed_by(c, at + n),

@@ -1,13 +1,13 @@
--- `parsing::scan::next_percent` meets its contract. The loop's invariant: the text from i on ends where the text from the start does. Assumes nothing.
+-- `scanning::next_percent` meets its contract. The loop's invariant: the text from i on ends where the text from the start does. Assumes nothing.
 use Prim.Native.Nat.{_+_, _-_}
 use mathlib.Core.Path.{_≡_, refl}
 use lib.ListN.{length, drop}
 use native.Mathlib.Omega.{arith}
-use Rattle.parsing.specs.Pieces.{textLength}
-use Rattle.parsing.proofs.Runs.{text-ends, text-percent, text-more}
+use Rattle.scanning.specs.Texts.{textLength}
+use Rattle.scanning.proofs.Runs.{text-ends, text-percent, text-more}
 use borrow.Author.Needs.{needs}
-use Rattle.parsing.proofs.scan.next_percent.Statement.{statement}
-use Rattle.parsing.proofs.scan.next_percent.Tie as tie
+use Rattle.scanning.proofs.next_percent.Statement.{statement}
+use Rattle.scanning.proofs.next_percent.Tie as tie
 
 abbrev Inv-loop : tie.InvT-loop
 Inv-loop text at i₀ i = i + textLength (drop i text) ≡ at + textLength (drop at text)

@@ -1,4 +1,4 @@
--- `parsing::scan::is_in_block` meets its contract. The loop's invariant: found says whether a `%` is among the first i bytes. Assumes nothing.
+-- `scanning::is_in_block` meets its contract. The loop's invariant: found says whether a `%` is among the first i bytes. Assumes nothing.
 use Prim.Native.Nat.{_-_, _≤_}
 use mathlib.Core.Path.{_≡_, sym, ap, _∙_}
 use mathlib.Core.Logic.{⊎-elim}
@@ -6,11 +6,11 @@ use lib.Dec.{ltb}
 use lib.ListN.{drop}
 use native.Mathlib.Omega.{arith}
 use borrow.Author.Tests.{le-ltb}
-use Rattle.parsing.specs.Pieces.{textLength}
-use Rattle.parsing.proofs.Blocks.{block-percent, block-more}
+use Rattle.scanning.specs.Texts.{textLength}
+use Rattle.scanning.proofs.Blocks.{block-percent, block-more}
 use borrow.Author.Needs.{needs}
-use Rattle.parsing.proofs.scan.is_in_block.Statement.{statement}
-use Rattle.parsing.proofs.scan.is_in_block.Tie as tie
+use Rattle.scanning.proofs.is_in_block.Statement.{statement}
+use Rattle.scanning.proofs.is_in_block.Tie as tie
 
 abbrev Inv-loop : tie.InvT-loop
 Inv-loop text at found₀ i₀ found i = (i ≤ 32) × (found ≡ ltb (textLength (drop at text)) i)

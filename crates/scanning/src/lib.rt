@@ -3,7 +3,7 @@ ghost use mathlib.Core.Path.{_≡_};
 ghost use Prim.Native.Nat.{_+_, _≤_};
 ghost use lib.Dec.{ltb};
 ghost use lib.ListN.{length, drop};
-ghost use Rattle.parsing.specs.Pieces.{textLength};
+ghost use Rattle.scanning.specs.Texts.{textLength};
 
 // The place of the next `%` from a place on, or the end, byte by byte.
 fn next_percent(text: &[u8], at: usize) -> usize

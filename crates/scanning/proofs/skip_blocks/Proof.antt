@@ -1,14 +1,14 @@
--- `parsing::scan::skip_blocks` meets its contract. The loop's invariant: the text from i on ends where the text from the start does. Assumes nothing.
+-- `scanning::skip_blocks` meets its contract. The loop's invariant: the text from i on ends where the text from the start does. Assumes nothing.
 use Prim.Native.Nat.{_+_, _-_, _≤_}
 use mathlib.Core.Path.{_≡_, sym, _∙_}
 use lib.ListN.{length, drop}
 use native.Mathlib.Omega.{arith}
 use borrow.Author.Tests.{ltb-false}
-use Rattle.parsing.specs.Pieces.{textLength}
-use Rattle.parsing.proofs.Blocks.{text-past}
+use Rattle.scanning.specs.Texts.{textLength}
+use Rattle.scanning.proofs.Blocks.{text-past}
 use borrow.Author.Needs.{needs}
-use Rattle.parsing.proofs.scan.skip_blocks.Statement.{statement}
-use Rattle.parsing.proofs.scan.skip_blocks.Tie as tie
+use Rattle.scanning.proofs.skip_blocks.Statement.{statement}
+use Rattle.scanning.proofs.skip_blocks.Tie as tie
 
 abbrev Inv-loop : tie.InvT-loop
 Inv-loop text i₀ i = (i ≤ length text) × (i + textLength (drop i text) ≡ textLength text)

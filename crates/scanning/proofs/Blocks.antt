@@ -11,8 +11,8 @@ use lib.ListN.{length, getD, drop}
 use lib.Seq.{drop-drop}
 use borrow.Author.Tests.{lt-ltb, le-ltb}
 use Rattle.writing.proofs.Choose.{by-test}
-use Rattle.parsing.specs.Pieces.{textLength}
-use Rattle.parsing.proofs.Runs.{text-percent, text-more}
+use Rattle.scanning.specs.Texts.{textLength}
+use Rattle.scanning.proofs.Runs.{text-percent, text-more}
 
 text-rest : (n : ℕ) (l : List ℕ) → n ≤ textLength l → textLength l ≡ n + textLength (drop n l)
 unfolding textLength
