@@ -15,9 +15,11 @@ use Rattle.hexfloats.specs.Texts.{exponentText, hexFloatText}
 use Rattle.utf8.specs.Utf8.{leadOf, wellFormedFrom, wellFormed}
 use Rattle.letters.specs.Letters.{smallOf, capitalOf}
 use Rattle.conversions.specs.Kinds.{kindOf, isIntegerKind, integerForm, fitsKind, printsAs}
-use Rattle.specifiers.specs.Flags.{leadingFlags, firstClash, flagsAt}
+use Rattle.flags.specs.Flags.{leadingFlags, firstClash, flagsAt}
 use Rattle.specifiers.specs.Specifier.{precisionAt, letterAt, partsAt, specifierAt}
-use Rattle.parsing.specs.Pieces.{textLength, indexAt, argumentAt, elementAt, pieceAt}
+use Rattle.arguments.specs.Indexes.{indexAt}
+use Rattle.scanning.specs.Texts.{textLength}
+use Rattle.parsing.specs.Pieces.{argumentAt, elementAt, pieceAt}
 use Rattle.parsing.specs.Listed.{placedFrom, endFrom, placed, ended}
 use Rattle.scalars.specs.Scalars.{utf8Of}
 use Rattle.strings.specs.Cut.{capital, backTo, cutLength, cutTo, cased}

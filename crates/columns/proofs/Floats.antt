@@ -18,7 +18,7 @@ use Rattle.reading.proofs.Integers.{spaced}
 use Rattle.reading.proofs.Floats.{scaledOf, hexPrefix as readPrefix}
 use Rattle.reading.proofs.Pieces.{float-piece}
 use Rattle.reading.proofs.Denotes.{denotes}
-use Rattle.specifiers.specs.declared.Flags.{Flags}
+use Rattle.flags.specs.declared.Flags.{Flags}
 use Rattle.specifiers.specs.declared.Element.{Element}
 use Rattle.elements.specs.Texts.{floatText}
 use Rattle.numbers.specs.Numbers.{widthOf, fill, hexPrefix, floatMark, finiteText}

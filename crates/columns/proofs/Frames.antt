@@ -13,7 +13,7 @@ use Rattle.layout.specs.declared.Frame.{Frame}
 use Rattle.layout.specs.declared.Mark.{Mark}
 use Rattle.layout.specs.declared.Prefix.{Prefix}
 use Rattle.reading.proofs.Integers.{spaced, framed-spaced}
-use Rattle.specifiers.specs.declared.Flags.{Flags}
+use Rattle.flags.specs.declared.Flags.{Flags}
 use Rattle.numbers.specs.Numbers.{signMark}
 
 module _ (P : List ℕ → Type 0) (m : Mark) (p : Prefix) (body : List ℕ) (all : (a z i : ℕ) → P (spaced a m p z body i 0)) where

@@ -26,7 +26,7 @@ use Rattle.reading.proofs.Pieces.{decimal-piece, hex-piece, octal-piece}
 use Rattle.conversions.specs.declared.Kind.the-variants as K
 use Rattle.numerals.specs.declared.Radix.{Radix}
 use Rattle.numerals.specs.declared.Radix.the-variants as R
-use Rattle.specifiers.specs.declared.Flags.{Flags}
+use Rattle.flags.specs.declared.Flags.{Flags}
 use Rattle.specifiers.specs.declared.Element.{Element}
 use Rattle.entries.specs.Entry.{holds}
 use Rattle.numbers.specs.Numbers.{widthOf, fill, integerMark, commas, ifAlternate, hexPrefix, paddedNumber, numeralText}

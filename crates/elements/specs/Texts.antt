@@ -24,7 +24,7 @@ use Rattle.conversions.specs.declared.IntegerForm.{IntegerForm}
 use Rattle.conversions.specs.declared.IntegerForm.the-variants.{Numeral, Scalar, Digits}
 use Rattle.conversions.specs.declared.Form.{Form}
 use Rattle.conversions.specs.declared.Form.the-variants as F
-use Rattle.specifiers.specs.declared.Flags.{Flags}
+use Rattle.flags.specs.declared.Flags.{Flags}
 use Rattle.specifiers.specs.declared.Element.{Element}
 use Rattle.numbers.specs.Numbers.{widthOf, numeralText, floatMark, finiteText}
 use Rattle.scalars.specs.Scalars.{isScalar, utf8Of}

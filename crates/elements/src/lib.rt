@@ -4,12 +4,12 @@
 use binary64::FpCategory;
 use conversions::Form;
 use conversions::IntegerForm;
+use flags::Flags;
 use layout::Adjust;
 use layout::Mark;
 use layout::Prefix;
 use numerals::Radix;
 use specifiers::Element;
-use specifiers::Flags;
 ghost use mathlib.Core.Path.{_≡_};
 ghost use mathlib.Core.Bool.{false};
 ghost use mathlib.Core.List.{[]};

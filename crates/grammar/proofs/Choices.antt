@@ -17,9 +17,10 @@ use Rattle.writing.proofs.Choose.{both}
 use Rattle.params.specs.Params.{isDigit, leadingDigits, isParam, numberAt}
 use Rattle.params.specs.declared.Number.{Number}
 use Rattle.specifiers.specs.Specifier.{beginsWith}
-use Rattle.parsing.specs.Pieces.{amongKinds, indexOf, isIndex, indexAt, sameIndex, argumentAt}
+use Rattle.arguments.specs.Indexes.{amongKinds, indexOf, isIndex, indexAt, sameIndex}
+use Rattle.arguments.specs.declared.Index.the-variants as I
+use Rattle.parsing.specs.Pieces.{argumentAt}
 use Rattle.parsing.specs.declared.Cursor.{Cursor}
-use Rattle.parsing.specs.declared.Index.the-variants as I
 use Rattle.grammar.specs.Runs.{begins, Run, numberIn}
 use Rattle.grammar.specs.Parts.{Choice, same, index, counted, choiceBytes, Part, countedBy, lastNamed}
 use Rattle.grammar.specs.Elements.{IsIndex, NoChoice, Names, by-last, by-index, by-count}

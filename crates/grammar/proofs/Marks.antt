@@ -15,13 +15,13 @@ use Rattle.specifiers.specs.declared.LetterTaken.the-variants as L
 use Rattle.specifiers.specs.declared.Parts.{Parts}
 use Rattle.specifiers.specs.declared.PartsTaken.{PartsTaken}
 use Rattle.specifiers.specs.declared.PartsTaken.the-variants as P
+use Rattle.arguments.specs.declared.Index.{Index}
+use Rattle.arguments.specs.declared.Index.the-variants as I
 use Rattle.parsing.specs.Pieces.{start, argumentAt, afterSpecifier, afterIndex, elementAt, pieceAt}
 use Rattle.parsing.specs.Listed.{Placed, andRest, placedFrom, placed, afterStep, endFrom, ended}
 use Rattle.parsing.specs.declared.Cursor.{Cursor}
 use Rattle.parsing.specs.declared.Ended.{Ended}
 use Rattle.parsing.specs.declared.Ended.the-variants.{Finished}
-use Rattle.parsing.specs.declared.Index.{Index}
-use Rattle.parsing.specs.declared.Index.the-variants as I
 use Rattle.parsing.specs.declared.Step.{Step}
 use Rattle.parsing.specs.declared.Step.the-variants.{Found, Refused}
 

@@ -18,8 +18,8 @@ use Rattle.params.specs.Params.{isDigit, leadingDigits, isParam, numberTaken, n
 use Rattle.params.specs.declared.Number.the-variants as N
 use Rattle.params.specs.declared.NumericParam.the-variants.{FromArgument}
 use Rattle.params.specs.declared.Taken.the-variants.{Param, TooLarge}
-use Rattle.specifiers.specs.Flags.{leadingFlags, flagsOf, firstClash, flagsTaken, flagsAt}
-use Rattle.specifiers.specs.declared.FlagsTaken.the-variants as F
+use Rattle.flags.specs.Flags.{leadingFlags, flagsOf, firstClash, flagsTaken, flagsAt}
+use Rattle.flags.specs.declared.FlagsTaken.the-variants as F
 use Rattle.grammar.specs.Runs.{begins, all, Run, numberIn}
 use Rattle.grammar.specs.Elements.{IsIndex, isFlag, Clash, Free}
 use Rattle.grammar.specs.Pieces.{paramRead}

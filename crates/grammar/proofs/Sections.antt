@@ -13,15 +13,15 @@ use Rattle.writing.specs.Text.{ascii, has}
 use Rattle.params.specs.Params.{isDigit, isParam, paramAt}
 use Rattle.params.specs.declared.NumericParam.the-variants.{FromArgument}
 use Rattle.params.specs.declared.Taken.the-variants.{Param}
-use Rattle.specifiers.specs.Flags.{flagsOf, flagsAt}
+use Rattle.flags.specs.Flags.{flagsOf, flagsAt}
 use Rattle.specifiers.specs.Specifier.{beginsWith, precisionAt, letterFrom, letterAt, partsAt, afterLetter, specifierAt}
-use Rattle.specifiers.specs.declared.FlagsTaken.the-variants as F
+use Rattle.flags.specs.declared.FlagsTaken.the-variants as F
 use Rattle.specifiers.specs.declared.Parts.{Parts}
 use Rattle.specifiers.specs.declared.Specifier.{Specifier}
 use Rattle.specifiers.specs.declared.Specifier.the-variants as S
+use Rattle.arguments.specs.declared.Index.the-variants as I
 use Rattle.parsing.specs.Pieces.{argumentAt}
 use Rattle.parsing.specs.declared.Cursor.{Cursor}
-use Rattle.parsing.specs.declared.Index.the-variants as I
 use Rattle.grammar.specs.Runs.{begins, Run, numberIn}
 use Rattle.grammar.specs.Parts.{Written, precisionBytes, Part, countedBy}
 use Rattle.grammar.specs.Elements.{Begun, Named, isFlag, Clash, Free, Flagged, Wide, PrecisionRun, absent, given, Precise}

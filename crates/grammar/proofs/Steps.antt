@@ -11,13 +11,14 @@ use borrow.Author.Tests.{eq-eqb, lt-leb}
 use Rattle.writing.specs.Text.{ascii, has}
 use Rattle.params.specs.Params.{isDigit}
 use Rattle.conversions.specs.Kinds.{fitsKind}
-use Rattle.specifiers.specs.Flags.{flagsOf}
+use Rattle.flags.specs.Flags.{flagsOf}
 use Rattle.specifiers.specs.Specifier.{beginsWith, afterLetter, specifierAt}
 use Rattle.specifiers.specs.declared.LetterTaken.the-variants as L
 use Rattle.specifiers.specs.declared.Specifier.the-variants as S
-use Rattle.parsing.specs.Pieces.{indexAt, argumentAt, afterSpecifier, afterIndex, elementAt, pieceAt}
+use Rattle.arguments.specs.Indexes.{indexAt}
+use Rattle.arguments.specs.declared.Index.the-variants as I
+use Rattle.parsing.specs.Pieces.{argumentAt, afterSpecifier, afterIndex, elementAt, pieceAt}
 use Rattle.parsing.specs.declared.Cursor.{Cursor}
-use Rattle.parsing.specs.declared.Index.the-variants as I
 use Rattle.parsing.specs.declared.Step.the-variants.{Refused}
 use Rattle.parsing.proofs.Indexes.{argument-named}
 use Rattle.grammar.specs.Parts.{Choice, choiceBytes, Written, precisionBytes}

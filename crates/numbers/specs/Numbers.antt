@@ -21,7 +21,7 @@ use Rattle.binary64.specs.HexFloat.{hexFloatOf}
 use Rattle.hexfloats.specs.Texts.{hexFloatText}
 use Rattle.numerals.specs.declared.Radix.{Radix}
 use Rattle.numerals.specs.declared.Radix.the-variants as R
-use Rattle.specifiers.specs.declared.Flags.{Flags}
+use Rattle.flags.specs.declared.Flags.{Flags}
 use Rattle.specifiers.specs.declared.Element.{Element}
 
 -- A width that is absent pads nothing.

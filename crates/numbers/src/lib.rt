@@ -1,13 +1,13 @@
 // The text of a number under an element, with mark, prefix and padding: an integer as a numeral, and a finite float. A writer writes where there is room.
 // Ported from format_string.rs of datafusion-spark 55.2.0 (Apache-2.0; see NOTICE): format_signed and format_unsigned (here the numeral of an integer, and its
 // writer put_numeral), and the finite values of format_hex_float.
+use flags::Flags;
 use layout::Adjust;
 use layout::Mark;
 use layout::Prefix;
 use numerals::Radix;
 use params::NumericParam;
 use specifiers::Element;
-use specifiers::Flags;
 ghost use mathlib.Core.Path.{_≡_};
 ghost use Prim.Native.Nat.{_^_, _≤_, _<_};
 ghost use lib.ListN.{length};

@@ -13,14 +13,16 @@ use Rattle.specifiers.specs.declared.Specifier.{Specifier}
 use Rattle.specifiers.specs.declared.Specifier.the-variants as S
 use Rattle.specifiers.proofs.Bytes.{begins-inside}
 use Rattle.specifiers.proofs.Places.{SpecifierIn, specifier-in}
-use Rattle.parsing.specs.Pieces.{passed, textLength, argumentAt, afterSpecifier, afterIndex, elementAt, pieceAt}
-use Rattle.parsing.specs.declared.Index.{Index}
-use Rattle.parsing.specs.declared.Index.the-variants as I
+use Rattle.arguments.specs.declared.Index.{Index}
+use Rattle.arguments.specs.declared.Index.the-variants as I
+use Rattle.arguments.proofs.Indexes.{NamedIn}
+use Rattle.scanning.specs.Texts.{textLength}
+use Rattle.parsing.specs.Pieces.{passed, argumentAt, afterSpecifier, afterIndex, elementAt, pieceAt}
 use Rattle.parsing.specs.declared.Piece.{Piece}
 use Rattle.parsing.specs.declared.Cursor.{Cursor}
 use Rattle.parsing.specs.declared.Step.{Step}
 use Rattle.parsing.specs.declared.Step.the-variants.{Found, Refused}
-use Rattle.parsing.proofs.Indexes.{NamedIn, argument-in}
+use Rattle.parsing.proofs.Indexes.{argument-in}
 
 -- From the cursor c to the cursor n behind one piece of a format of the length given.
 pub record Advanced (len : ℕ) (c n : Cursor) : Type 0 where

@@ -18,16 +18,17 @@ use Rattle.specifiers.specs.declared.PartsTaken.{PartsTaken}
 use Rattle.specifiers.specs.declared.PartsTaken.the-variants as P
 use Rattle.specifiers.specs.declared.Specifier.{Specifier}
 use Rattle.specifiers.specs.declared.Specifier.the-variants as S
+use Rattle.arguments.specs.declared.Index.{Index}
+use Rattle.arguments.specs.declared.Index.the-variants as I
+use Rattle.arguments.proofs.Indexes.{NamedIn}
 use Rattle.parsing.specs.Pieces.{start, argumentAt, afterSpecifier, afterIndex, elementAt, pieceAt}
 use Rattle.parsing.specs.Listed.{Placed, andRest, placedFrom, placed}
 use Rattle.parsing.specs.Covers.{PieceIn}
-use Rattle.parsing.specs.declared.Index.{Index}
-use Rattle.parsing.specs.declared.Index.the-variants as I
 use Rattle.parsing.specs.declared.Piece.{Piece}
 use Rattle.parsing.specs.declared.Cursor.{Cursor}
 use Rattle.parsing.specs.declared.Step.{Step}
 use Rattle.parsing.specs.declared.Step.the-variants.{Found, Refused}
-use Rattle.parsing.proofs.Indexes.{NamedIn, argument-in}
+use Rattle.parsing.proofs.Indexes.{argument-in}
 use Rattle.parsing.proofs.Progress.{advanced}
 
 -- The element read is that of the argument asked for.

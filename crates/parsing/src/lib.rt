@@ -1,28 +1,14 @@
 // Reading a format: the next piece from a cursor on. A format checked against kinds is a pass over its pieces, which stands in `printing`.
 // Ported from format_string.rs of datafusion-spark 55.2.0 (Apache-2.0; see NOTICE): Formatter::parse. The original keeps a
 // vector of elements; here a cursor reads the format again from an offset.
-mod scan;
-
-use params::Number;
+use arguments::Index;
 use specifiers::Element;
 use specifiers::Specifier;
 ghost use mathlib.Core.Path.{_≡_};
 ghost use Prim.Native.Nat.{_<_};
 ghost use lib.ListN.{length};
-ghost use Rattle.parsing.specs.Pieces.{start, passed, isIndex, amongKinds, indexAt, sameIndex, argumentAt, elementAt, pieceAt};
+ghost use Rattle.parsing.specs.Pieces.{start, passed, argumentAt, elementAt, pieceAt};
 ghost use Rattle.parsing.specs.Refusals.{IndexHanded, SpecifierHanded};
-
-// The argument of an element: its index, the place behind it, and the running count.
-pub enum Index {
-    Named {
-        argument: usize,
-        next: usize,
-        count: usize,
-    },
-    Refused {
-        number: u8,
-    },
-}
 
 // A piece: part of the format as it stands, a byte that does not stand in it (`%n`), or an element.
 pub enum Piece {
@@ -56,79 +42,6 @@ pub enum Checked {
     Refused { number: u8, place: usize },
 }
 
-// Whether an index stands at a place: digits from 1 to 9 onward, and then `$`.
-fn is_index(fmt: &[u8], at: usize) -> bool
-    ensures { λ r. ⌜ r ≡ isIndex (now (fmt .entry)) at ⌝ }
-{
-    if at < fmt.len() {
-        if fmt[at] < b'1' {
-            return false;
-        }
-        if b'9' < fmt[at] {
-            return false;
-        }
-        return specifiers::is_byte(fmt, params::digits_end(fmt, at), b'$');
-    }
-    false
-}
-
-// An argument, if there are so many kinds.
-fn named(argument: usize, next: usize, count: usize, kinds: usize) -> Index
-    ensures { λ r. ⌜ r ≡ amongKinds kinds argument next count ⌝ }
-{
-    if kinds < argument {
-        return Index::Refused {
-            number: refusals::NO_SUCH_ARGUMENT,
-        };
-    }
-    Index::Named {
-        argument: argument,
-        next: next,
-        count: count,
-    }
-}
-
-// The argument of an element that names one by an index, or takes the next in the running count.
-fn take_index(fmt: &[u8], at: usize, count: usize, kinds: usize) -> Index
-    ensures { λ r. ⌜ r ≡ indexAt (now (fmt .entry)) kinds at count ⌝ }
-{
-    if specifiers::is_byte(fmt, at, b'$') {
-        return Index::Refused {
-            number: refusals::NO_INDEX,
-        };
-    }
-    if is_index(fmt, at) {
-        let Number::Value { value, next } = params::take_number(fmt, at) else {
-            return Index::Refused {
-                number: refusals::LARGE_NUMBER,
-            };
-        };
-        return named(value as usize, next + 1, count, kinds);
-    }
-    if kinds <= count {
-        return Index::Refused {
-            number: refusals::NO_SUCH_ARGUMENT,
-        };
-    }
-    Index::Named {
-        argument: count + 1,
-        next: at,
-        count: count + 1,
-    }
-}
-
-// The argument of an element behind `%<`: the last one named without `<`.
-fn same_index(last: usize, next: usize, count: usize, kinds: usize) -> Index
-    ensures { λ r. ⌜ r ≡ sameIndex kinds last next count ⌝ }
-{
-    if last == 0 {
-        return Index::Refused {
-            number: refusals::NO_ELEMENT_BEFORE,
-        };
-    }
-    named(last, next, count, kinds)
-}
-
 // The argument of the element whose `%` stands at the cursor.
 fn take_argument(fmt: &[u8], c: Cursor, kinds: usize) -> Index
     requires { ⌜ c .at < length (now fmt) ⌝ }
@@ -138,9 +51,9 @@ fn take_argument(fmt: &[u8], c: Cursor, kinds: usize) -> Index
     let count = c.count;
     if specifiers::is_byte(fmt, second, b'<') {
         let last = c.last;
-        return same_index(last, second + 1, count, kinds);
+        return arguments::same_index(last, second + 1, count, kinds);
     }
-    take_index(fmt, second, count, kinds)
+    arguments::take_index(fmt, second, count, kinds)
 }
 
 // A refusal handed upward. It is asked of refusals alone.
@@ -218,7 +131,7 @@ pub fn next_piece(fmt: &[u8], kinds: &[u8], c: Cursor) -> Step
     }
     let second = at + 1;
     if fmt[at] != b'%' {
-        let n = scan::text_len(&fmt[at..]);
+        let n = scanning::text_len(&fmt[at..]);
         return Step::Found {
             piece: Piece::Fixed { start: at, len: n },
             next: passed_by(c, at + n),

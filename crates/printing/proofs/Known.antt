@@ -4,8 +4,8 @@ use mathlib.Core.Bool.{true, _&&_}
 use mathlib.Core.List.{List}
 use Prim.Native.Nat.{ℕ, _+_, _≤_, _<_}
 use lib.ListN.{length, getD, drop}
+use Rattle.writing.proofs.Bytes.{byte-at, no-byte}
 use Rattle.conversions.specs.Kinds.{kindOf}
-use Rattle.specifiers.proofs.Bytes.{byte-at, no-byte}
 use Rattle.parsing.specs.Check.{isKnown, allKnown}
 
 module _ (ks : List ℕ) (i : ℕ) where

@@ -1,4 +1,3 @@
 pub mod Bytes
-mod Runs
 pub mod Places
 mod AtLetter

@@ -9,6 +9,7 @@ use native.Mathlib.Omega.{arith}
 use lib.Dec.{eqb}
 use lib.ListN.{length, drop, length-drop}
 use Rattle.writing.proofs.Choose.{by-test}
+use Rattle.writing.proofs.Bytes.{no-byte}
 use Rattle.params.specs.Params.{isParam, numberAt, paramOf, paramAt}
 use Rattle.params.specs.declared.NumericParam.{NumericParam}
 use Rattle.params.specs.declared.Number.{Number}
@@ -22,13 +23,13 @@ use Rattle.letters.specs.declared.Letter.{Letter}
 use Rattle.letters.specs.declared.Letter.the-variants.{Conversion, NoConversion}
 use Rattle.letters.specs.declared.TimeLetter.{TimeLetter}
 use Rattle.letters.specs.declared.TimeLetter.the-variants.{Component, NoComponent}
-use Rattle.specifiers.specs.Flags.{leadingFlags, firstClash, flagsTaken, flagsAt}
+use Rattle.flags.specs.Flags.{leadingFlags, firstClash, flagsTaken, flagsAt}
 use Rattle.specifiers.specs.Specifier.{beginsWith, precisionAt, afterPrecision, afterWidth, afterFlags, partsAt}
 use Rattle.specifiers.specs.Specifier.{capitalTaken, oneLetter, timeLetter, secondLetter, letterFrom, letterAt}
 use Rattle.specifiers.specs.Specifier.{afterLetter, afterParts, specifierAt}
-use Rattle.specifiers.specs.declared.Flags.{Flags}
-use Rattle.specifiers.specs.declared.FlagsTaken.{FlagsTaken}
-use Rattle.specifiers.specs.declared.FlagsTaken.the-variants as F
+use Rattle.flags.specs.declared.Flags.{Flags}
+use Rattle.flags.specs.declared.FlagsTaken.{FlagsTaken}
+use Rattle.flags.specs.declared.FlagsTaken.the-variants as F
 use Rattle.specifiers.specs.declared.LetterTaken.{LetterTaken}
 use Rattle.specifiers.specs.declared.LetterTaken.the-variants as L
 use Rattle.specifiers.specs.declared.Parts.{Parts}
@@ -36,7 +37,6 @@ use Rattle.specifiers.specs.declared.PartsTaken.{PartsTaken}
 use Rattle.specifiers.specs.declared.PartsTaken.the-variants as P
 use Rattle.specifiers.specs.declared.Specifier.{Specifier}
 use Rattle.specifiers.specs.declared.Specifier.the-variants as S
-use Rattle.specifiers.proofs.Bytes.{no-byte}
 
 -- A number ends at or behind the place where it begins.
 abbrev TakenOn : ℕ → Taken → Type 0

@@ -19,10 +19,10 @@ use Rattle.letters.specs.declared.Letter.{Letter}
 use Rattle.letters.specs.declared.Letter.the-variants.{Conversion, NoConversion}
 use Rattle.letters.specs.declared.TimeLetter.{TimeLetter}
 use Rattle.letters.specs.declared.TimeLetter.the-variants.{Component, NoComponent}
-use Rattle.specifiers.specs.Flags.{flagsAt}
-use Rattle.specifiers.specs.declared.Flags.{Flags}
-use Rattle.specifiers.specs.declared.FlagsTaken.{FlagsTaken}
-use Rattle.specifiers.specs.declared.FlagsTaken.the-variants as F
+use Rattle.flags.specs.Flags.{flagsAt}
+use Rattle.flags.specs.declared.Flags.{Flags}
+use Rattle.flags.specs.declared.FlagsTaken.{FlagsTaken}
+use Rattle.flags.specs.declared.FlagsTaken.the-variants as F
 use Rattle.specifiers.specs.declared.LetterTaken.{LetterTaken}
 use Rattle.specifiers.specs.declared.LetterTaken.the-variants as L
 use Rattle.specifiers.specs.declared.Parts.{Parts}

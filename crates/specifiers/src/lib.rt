@@ -3,44 +3,15 @@
 use letters::ConversionType;
 use letters::Letter;
 use letters::TimeLetter;
+use flags::Flags;
+use flags::FlagsTaken;
 use params::NumericParam;
 use params::Taken;
 ghost use mathlib.Core.Path.{_≡_};
-ghost use mathlib.Core.List.{List, []};
-ghost use Prim.Native.Nat.{ℕ, _<_};
+ghost use Prim.Native.Nat.{_<_};
 ghost use lib.ListN.{length, drop};
-ghost use Rattle.specifiers.specs.Flags.{flagsOf, flagsAt};
 ghost use Rattle.specifiers.specs.Specifier.{beginsWith, precisionAt, timeLetterAt, letterAt, partsAt, specifierAt};
-ghost use Rattle.specifiers.specs.Refusals.{beginsLetter, stepOf, StopHanded, FlagsHanded, PartsHanded, LetterHanded};
-
-// The flags that were read. The original's names are alt_form, zero_pad, left_adj, space_sign, force_sign, grouping_separator and
-// negative_in_parentheses; a definition can name a field plainly only where it is one word.
-pub struct Flags {
-    pub alternate: bool,
-    pub zero: bool,
-    pub left: bool,
-    pub space: bool,
-    pub plus: bool,
-    pub grouping: bool,
-    pub parentheses: bool,
-}
-
-// What a byte does to the flags: one more is set, or they stop.
-pub enum FlagStep {
-    Set(Flags),
-    Stops(FlagStop),
-}
-
-// Why flags stop: the byte is none, or it clashes with an earlier one.
-pub enum FlagStop {
-    NoFlag,
-    Clash(u8),
-}
-
-pub enum FlagsTaken {
-    Read { flags: Flags, next: usize },
-    Refused { number: u8 },
-}
+ghost use Rattle.specifiers.specs.Refusals.{beginsLetter, FlagsHanded, PartsHanded, LetterHanded};
 
 pub enum LetterTaken {
     Read {
@@ -78,108 +49,6 @@ pub struct Element {
 pub enum Specifier {
     Read { element: Element, next: usize },
     Refused { number: u8 },
-}
-
-// One flag more: b behind any flags that give f.
-fn with_flag(f: Flags, b: u8) -> FlagStep
-    ensures { λ r. ⌜ ((before : List ℕ) → f ≡ flagsOf before → r ≡ stepOf before b) ⌝ }
-{
-    let mut g = f;
-    match b {
-        b'#' => {
-            g.alternate = true;
-            FlagStep::Set(g)
-        }
-        b'0' => {
-            let left = f.left;
-            if left {
-                return FlagStep::Stops(FlagStop::Clash(refusals::ZERO_AFTER_MINUS));
-            }
-            g.zero = true;
-            FlagStep::Set(g)
-        }
-        b'-' => {
-            g.left = true;
-            FlagStep::Set(g)
-        }
-        b' ' => {
-            let plus = f.plus;
-            if plus {
-                return FlagStep::Stops(FlagStop::Clash(refusals::PLUS_AND_SPACE));
-            }
-            g.space = true;
-            FlagStep::Set(g)
-        }
-        b'+' => {
-            let space = f.space;
-            if space {
-                return FlagStep::Stops(FlagStop::Clash(refusals::PLUS_AND_SPACE));
-            }
-            g.plus = true;
-            FlagStep::Set(g)
-        }
-        b',' => {
-            g.grouping = true;
-            FlagStep::Set(g)
-        }
-        b'(' => {
-            g.parentheses = true;
-            FlagStep::Set(g)
-        }
-        _ => FlagStep::Stops(FlagStop::NoFlag),
-    }
-}
-
-fn no_flags() -> Flags
-    ensures { λ r. ⌜ r ≡ flagsOf [] ⌝ }
-{
-    Flags {
-        alternate: false,
-        zero: false,
-        left: false,
-        space: false,
-        plus: false,
-        grouping: false,
-        parentheses: false,
-    }
-}
-
-// Flags that stop at a place. It is asked of steps that stop alone.
-fn flags_stop(step: FlagStep, flags: Flags, at: usize) -> FlagsTaken
-    ensures { λ r. ⌜ StopHanded step flags at r ⌝ }
-{
-    let FlagStep::Stops(stop) = step else {
-        return FlagsTaken::Refused {
-            number: refusals::NO_LETTER,
-        };
-    };
-    match stop {
-        FlagStop::NoFlag => FlagsTaken::Read {
-            flags: flags,
-            next: at,
-        },
-        FlagStop::Clash(number) => FlagsTaken::Refused { number: number },
-    }
-}
-
-// The flags from the place at on.
-fn take_flags(fmt: &[u8], at: usize) -> FlagsTaken
-    ensures { λ r. ⌜ r ≡ flagsAt (now (fmt .entry)) at ⌝ }
-{
-    let mut i = at;
-    let mut flags = no_flags();
-    while i < fmt.len() {
-        let step = with_flag(flags, fmt[i]);
-        let FlagStep::Set(g) = step else {
-            return flags_stop(step, flags, i);
-        };
-        flags = g;
-        i = i + 1;
-    }
-    FlagsTaken::Read {
-        flags: flags,
-        next: i,
-    }
 }
 
 // `.` and digits, or no precision.
@@ -314,14 +183,14 @@ fn take_parts(fmt: &[u8], at: usize) -> PartsTaken
     if begins_letter(fmt, at) {
         return PartsTaken::Read {
             parts: Parts {
-                flags: no_flags(),
+                flags: flags::no_flags(),
                 width: NumericParam::FromArgument,
                 precision: NumericParam::FromArgument,
             },
             next: at,
         };
     }
-    let read = take_flags(fmt, at);
+    let read = flags::take_flags(fmt, at);
     let FlagsTaken::Read { flags, next: w } = read else {
         return flags_refusal(read);
     };

@@ -3,3 +3,4 @@ pub mod Chained
 pub mod FromRight
 pub mod Backwards
 pub mod Choose
+pub mod Bytes

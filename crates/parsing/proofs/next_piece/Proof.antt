@@ -8,8 +8,10 @@ use native.Mathlib.Omega.{arith}
 use borrow.Rule.Slice.PartAt.{part-to-end}
 use borrow.Author.Tests.{eq-eqb, ne-eqb}
 use Rattle.writing.specs.Choose.{choose}
-use Rattle.specifiers.proofs.Bytes.{no-byte, begins-at}
-use Rattle.parsing.specs.Pieces.{passed, textLength, elementAt, pieceAt}
+use Rattle.writing.proofs.Bytes.{no-byte}
+use Rattle.specifiers.proofs.Bytes.{begins-at}
+use Rattle.scanning.specs.Texts.{textLength}
+use Rattle.parsing.specs.Pieces.{passed, elementAt, pieceAt}
 use Rattle.parsing.specs.declared.Piece.the-variants.{Byte}
 use Rattle.parsing.specs.declared.Step.the-variants.{Found}
 use Rattle.parsing.proofs.Progress.{text-in}

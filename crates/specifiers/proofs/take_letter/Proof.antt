@@ -3,9 +3,9 @@ use mathlib.Core.Path.{_≡_, sym}
 use lib.ListN.{getD}
 use borrow.Author.Needs.{needs}
 use borrow.Author.Tests.{eq-eqb, ne-eqb}
+use Rattle.writing.proofs.Bytes.{byte-at, no-byte}
 use Rattle.letters.specs.Letters.{capitalOf}
 use Rattle.specifiers.specs.Specifier.{oneLetter, timeLetterAt, letterAt}
-use Rattle.specifiers.proofs.Bytes.{byte-at, no-byte}
 use Rattle.specifiers.proofs.take_letter.Statement.{statement}
 use Rattle.specifiers.proofs.take_letter.Tie as tie
 
