@@ -11,8 +11,8 @@ use lib.ListN.{length, getD}
 use borrow.Author.Tests.{le-leb}
 use Rattle.refusals.specs.Limits.{mostFormat, mostKinds}
 use Rattle.utf8.specs.Utf8.{wellFormed}
-use Rattle.conversions.specs.Kinds.{kindOf}
-use Rattle.parsing.specs.Check.{isKnown, allKnown, checkedEnd, checked}
+use Rattle.conversions.specs.Kinds.{kindOf, isKnown, allKnown}
+use Rattle.parsing.specs.Check.{checkedEnd, checked}
 use Rattle.parsing.specs.Listed.{placed, ended}
 use Rattle.parsing.specs.declared.Checked.{Checked}
 use Rattle.parsing.specs.declared.Checked.the-variants as C

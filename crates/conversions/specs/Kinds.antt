@@ -1,6 +1,6 @@
 -- The kinds of value, which letters fit them, and how letters print them: two tables over conversions and kinds.
 use Prim.Native.Nat.{ℕ, _%_}
-use mathlib.Core.Bool.{Bool, true, false, _||_}
+use mathlib.Core.Bool.{Bool, true, false, _&&_, _||_}
 use mathlib.Core.List.{List, [], _∷_}
 use lib.Dec.{eqb}
 use Rattle.letters.specs.Letters.{lookup}
@@ -25,6 +25,15 @@ otherKinds = (5, K.Float64) ∷ (6, K.Boolean) ∷ (7, K.Text) ∷ []
 
 unfoldable pub kindOf : ℕ → KindByte
 kindOf b = lookup (λ k. k) (λ w. Known (K.Signed w)) (lookup (λ k. k) Known Unknown otherKinds b) integerKinds b
+
+-- 01: "over 64 kinds, or a kind not 1 to 7"
+abbrev pub isKnown : KindByte → Bool
+isKnown (Known k) = true
+isKnown Unknown = false
+
+unfoldable pub allKnown : List ℕ → Bool
+allKnown [] = true
+allKnown (k ∷ ks) = isKnown (kindOf k) && allKnown ks
 
 -- What fits. 01: "b needs 6; c, d, o, x need 1 to 4; e, f, g, a need 1 to 5; t and T fit none of our kinds; s and h take all."
 unfoldable pub isIntegerKind : ℕ → Bool

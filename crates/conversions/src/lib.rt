@@ -3,7 +3,7 @@
 use letters::ConversionType;
 use numerals::Radix;
 ghost use mathlib.Core.Path.{_≡_};
-ghost use Rattle.conversions.specs.Kinds.{kindOf, isIntegerKind, isNumberKind, fits, fitsKind, integerForm, onlyIf, formOf, printsAs};
+ghost use Rattle.conversions.specs.Kinds.{kindOf, isKnown, allKnown, isIntegerKind, isNumberKind, fits, fitsKind, integerForm, onlyIf, formOf, printsAs};
 ghost use Rattle.conversions.specs.declared.Form.the-variants.{NotPrinted};
 
 // A kind of value: a signed integer with its width in bits, a binary64 float, a Boolean, a text.
@@ -49,6 +49,29 @@ pub fn kind_of(b: u8) -> KindByte
         7 => KindByte::Known(Kind::Text),
         _ => KindByte::Unknown,
     }
+}
+
+fn is_known(k: KindByte) -> bool
+    ensures { λ r. ⌜ r ≡ isKnown k ⌝ }
+{
+    match k {
+        KindByte::Known(_) => true,
+        KindByte::Unknown => false,
+    }
+}
+
+// Whether every byte is a kind.
+pub fn all_known(kinds: &[u8]) -> bool
+    ensures { λ r. ⌜ r ≡ allKnown (now (kinds .entry)) ⌝ }
+{
+    let mut i = 0;
+    while i < kinds.len() {
+        if !is_known(kind_of(kinds[i])) {
+            return false;
+        }
+        i = i + 1;
+    }
+    true
 }
 
 fn is_integer(kind: u8) -> bool

@@ -12,7 +12,7 @@ use Rattle.writing.specs.Choose.{choose}
 use Rattle.writing.specs.Text.{ascii, has}
 use Rattle.writing.proofs.Choose.{by-test, both}
 use Rattle.letters.specs.Letters.{lookup, timeLetters as timeTable, timeOf, smallLetters, smallOf, capitalLetters, capitalOf}
-use Rattle.conversions.specs.Kinds.{integerKinds, otherKinds, isIntegerKind, kindOf, fits}
+use Rattle.conversions.specs.Kinds.{integerKinds, otherKinds, isIntegerKind, kindOf, fits, isKnown}
 use Rattle.letters.specs.declared.ConversionType.{ConversionType}
 use Rattle.letters.specs.declared.ConversionType.the-variants.{Time}
 use Rattle.conversions.specs.declared.Kind.the-variants as K
@@ -24,7 +24,6 @@ use Rattle.letters.specs.declared.TimeLetter.the-variants.{Component, NoCompone
 use Rattle.specifiers.specs.Specifier.{capitalTaken, oneLetter, timeLetter, secondLetter, letterFrom}
 use Rattle.specifiers.specs.declared.LetterTaken.{LetterTaken}
 use Rattle.specifiers.specs.declared.LetterTaken.the-variants as L
-use Rattle.parsing.specs.Check.{isKnown}
 use Rattle.grammar.specs.Runs.{begins, all}
 use Rattle.grammar.specs.Pieces.{lettersOf, capitals}
 use Rattle.grammar.specs.Elements.{letters, timeLetters, IsLetter, plain, time, kinds, needs, inTable, fitsBytes}

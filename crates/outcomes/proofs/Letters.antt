@@ -11,7 +11,7 @@ use lib.Seq.{getD-at}
 use Rattle.writing.specs.Choose.{choose}
 use Rattle.writing.specs.Text.{has}
 use Rattle.letters.specs.Letters.{timeOf, smallOf, capitalOf}
-use Rattle.conversions.specs.Kinds.{kindOf}
+use Rattle.conversions.specs.Kinds.{kindOf, isKnown}
 use Rattle.letters.specs.declared.ConversionType.{ConversionType}
 use Rattle.conversions.specs.declared.KindByte.{KindByte}
 use Rattle.conversions.specs.declared.KindByte.the-variants.{Known, Unknown}
@@ -22,7 +22,6 @@ use Rattle.letters.specs.declared.TimeLetter.the-variants.{Component, NoCompone
 use Rattle.specifiers.specs.Specifier.{oneLetter, timeLetter, secondLetter, letterFrom}
 use Rattle.specifiers.specs.declared.Element.{Element}
 use Rattle.specifiers.specs.declared.LetterTaken.the-variants as L
-use Rattle.parsing.specs.Check.{isKnown}
 use Rattle.parsing.specs.Listed.{Placed, placed, ended}
 use Rattle.parsing.specs.declared.Ended.the-variants.{Finished}
 use Rattle.parsing.specs.declared.Piece.{Piece}

@@ -19,7 +19,8 @@ use Rattle.outcomes.proofs.Joined.{ends-length, nth-end, joined-part}
 use Rattle.outcomes.proofs.Texts.{texts-length}
 use Rattle.outcomes.proofs.Accepted.{Fitted, fitted}
 use Rattle.outcomes.proofs.Demand.{demand}
-use Rattle.panel.specs.Entries.{printAnswer, allBytes, endsRead, Holds, Prints, PanelPrints}
+use Rattle.words.specs.LittleEndian.{allBytes}
+use Rattle.panel.specs.Entries.{printAnswer, endsRead, Holds, Prints, PanelPrints}
 use Rattle.panel.specs.declared.PrintAnswer.{PrintAnswer}
 use Rattle.panel.proofs.Ends.{read-again}
 

@@ -2,10 +2,10 @@
 -- little-endian bytes each, and up to 3 bytes left over are never written."
 use Prim.Native.Nat.{ℕ, _/_, _≤_}
 use mathlib.Core.Path.{_≡_}
-use mathlib.Core.List.{List, [], _∷_, _++_}
+use mathlib.Core.List.{List, [], _∷_}
 use lib.ListN.{length, take}
 use Rattle.writing.specs.Laid.{laid}
-use Rattle.words.specs.LittleEndian.{littleEndian, bytesOf}
+use Rattle.words.specs.LittleEndian.{littleEndian, allBytes}
 use Rattle.parsing.specs.declared.Checked.{Checked}
 use Rattle.parsing.specs.declared.Checked.the-variants as C
 use Rattle.outcomes.specs.Printed.{texts, printedText, endsFrom, printed, written}
@@ -24,12 +24,7 @@ abbrev pub printAnswer : Outcome → PrintAnswer
 printAnswer (Accepted length pieces) = record { number = 0; place = 0; length = length; pieces = pieces }
 printAnswer (Refused number place) = record { number = number; place = place; length = 0; pieces = 0 }
 
--- "4 little-endian bytes each"
-unfoldable pub allBytes : List ℕ → List ℕ
-allBytes [] = []
-allBytes (n ∷ ns) = bytesOf 4 n ++ allBytes ns
-
--- The ends that bytes hold, read so; "up to 3 bytes left over" hold none.
+-- The ends that bytes hold, "4 little-endian bytes each"; "up to 3 bytes left over" hold none.
 unfoldable pub endsRead : List ℕ → List ℕ
 endsRead [] = []
 endsRead (a ∷ []) = []

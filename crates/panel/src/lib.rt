@@ -8,7 +8,7 @@ ghost use Rattle.parsing.specs.Check.{checked};
 ghost use Rattle.outcomes.specs.Printed.{measured, printed};
 ghost use Rattle.outcomes.specs.declared.Outcome.the-variants.{Accepted};
 ghost use Rattle.writing.specs.Laid.{laid};
-ghost use Rattle.panel.specs.Entries.{checkAnswer, printAnswer, allBytes, Holds, Prints, BothLaid, PanelPrints};
+ghost use Rattle.panel.specs.Entries.{checkAnswer, printAnswer, Holds, Prints, BothLaid, PanelPrints};
 
 // number is 0 where the format is accepted; else it is the refusal's, with its place.
 #[repr(C)]
@@ -82,18 +82,6 @@ pub extern "C" fn panel_measure<'a>(fmt: &'a [u8], row: &'a [u8]) -> PrintAnswer
     print_answer(printing::measure(fmt, row))
 }
 
-// Ends, four bytes each.
-fn store_ends(ends: &mut [u8], slots: &[u32])
-    requires { ⌜ 4 * length (now slots) ≤ length (now ends) ⌝ }
-    ensures { λ r. ⌜ now (ends .exit) ≡ laid (now (ends .entry)) (allBytes (now (slots .entry))) ⌝ }
-{
-    let mut k: usize = 0;
-    while k < slots.len() {
-        words::write_four(&mut ends[4 * k..], slots[k]);
-        k = k + 1;
-    }
-}
-
 // Prints an accepted row by a pass of its own. A format has at most 512 pieces.
 fn print_long<'a>(
     fmt: &'a [u8],
@@ -108,7 +96,7 @@ fn print_long<'a>(
 {
     let mut slots = [0u32; 512];
     printing::stage(fmt, row, out, &mut slots);
-    store_ends(ends, &slots[..pieces as usize]);
+    words::write_fours(ends, &slots[..pieces as usize]);
 }
 
 // Prints an accepted row: from text and slots where these hold it, else by another pass.
@@ -129,7 +117,7 @@ fn print_accepted<'a>(
     if bytes <= text.len() as u64 {
         if pieces <= slots.len() as u64 {
             writing::write_text(out, &text[..bytes as usize]);
-            store_ends(ends, &slots[..pieces as usize]);
+            words::write_fours(ends, &slots[..pieces as usize]);
             return;
         }
     }

@@ -12,7 +12,8 @@ use Rattle.refusals.specs.Limits.{mostKinds, mostPieces}
 use Rattle.utf8.specs.Utf8.{wellFormed, wellFormedFrom}
 use Rattle.parsing.specs.Pieces.{start, pieceAt}
 use Rattle.parsing.specs.Listed.{Placed, placedFrom, endFrom, placed, ended}
-use Rattle.parsing.specs.Check.{allKnown, argumentOf, largestOf, checked}
+use Rattle.conversions.specs.Kinds.{allKnown}
+use Rattle.parsing.specs.Check.{argumentOf, largestOf, checked}
 use Rattle.parsing.specs.Covers.{Covers}
 use Rattle.parsing.specs.declared.Cursor.{Cursor}
 use Rattle.parsing.specs.declared.Step.{Step}

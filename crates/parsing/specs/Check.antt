@@ -1,15 +1,13 @@
 -- A format checked against kinds. 01: "The result is the number of pieces and the largest argument index used, 0 if none."
 use Prim.Native.Nat.{ℕ, max}
-use mathlib.Core.Bool.{Bool, true, false, _&&_}
+use mathlib.Core.Bool.{_&&_}
 use mathlib.Core.List.{List, [], _∷_}
 use lib.Dec.{leb, ltb}
 use lib.ListN.{length}
 use Rattle.refusals.specs.Limits.{mostFormat, mostKinds}
 use Rattle.writing.specs.Choose.{choose}
 use Rattle.utf8.specs.Utf8.{wellFormed}
-use Rattle.conversions.specs.Kinds.{kindOf}
-use Rattle.conversions.specs.declared.KindByte.{KindByte}
-use Rattle.conversions.specs.declared.KindByte.the-variants.{Known, Unknown}
+use Rattle.conversions.specs.Kinds.{allKnown}
 use Rattle.parsing.specs.Listed.{Placed, placed, ended}
 use Rattle.parsing.specs.declared.Piece.{Piece}
 use Rattle.parsing.specs.declared.Piece.the-variants.{Fixed, Byte, Element as AnElement}
@@ -27,15 +25,6 @@ argumentOf (AnElement e) = e .argument
 unfoldable pub largestOf : List Placed → ℕ
 largestOf [] = 0
 largestOf (p ∷ ps) = max (argumentOf (p .piece)) (largestOf ps)
-
--- "over 64 kinds, or a kind not 1 to 7"
-abbrev pub isKnown : KindByte → Bool
-isKnown (Known k) = true
-isKnown Unknown = false
-
-unfoldable pub allKnown : List ℕ → Bool
-allKnown [] = true
-allKnown (k ∷ ks) = isKnown (kindOf k) && allKnown ks
 
 abbrev pub checkedEnd : Ended → List Placed → Checked
 checkedEnd Finished ps = Accepted (length ps) (largestOf ps)

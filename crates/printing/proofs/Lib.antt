@@ -1,3 +1,2 @@
 mod Outcomes
 pub mod Staged
-mod Known

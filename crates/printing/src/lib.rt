@@ -2,7 +2,6 @@
 // Ported from format_string.rs of datafusion-spark 55.2.0 (Apache-2.0; see NOTICE): the loops of Formatter::parse and Formatter::format. The original
 // pushes the text of each element to a string; here one pass over the pieces finds every refusal and the text's length, and writes as far as it has
 // room; what is lent to a caller is written only once no refusal is left.
-use conversions::KindByte;
 use outcomes::Outcome;
 use parsing::Checked;
 use parsing::Ended;
@@ -11,35 +10,12 @@ use passes::Walked;
 use rows::RowRead;
 ghost use mathlib.Core.Path.{_≡_};
 ghost use lib.ListN.{length};
-ghost use Rattle.parsing.specs.Check.{isKnown, allKnown, checked};
+ghost use Rattle.parsing.specs.Check.{checked};
 ghost use Rattle.parsing.specs.declared.Ended.the-variants.{Finished};
 ghost use Rattle.outcomes.specs.Printed.{texts, printedText, endsFrom, measured, ifRoom, printed, written};
 ghost use Rattle.printing.specs.Stages.{Staged};
 ghost use Rattle.passes.specs.Passes.{outcomeOf, checkedBy};
 ghost use Rattle.outcomes.specs.Demand.{Demanded};
-
-fn is_known(k: KindByte) -> bool
-    ensures { λ r. ⌜ r ≡ isKnown k ⌝ }
-{
-    match k {
-        KindByte::Known(_) => true,
-        KindByte::Unknown => false,
-    }
-}
-
-// Whether every byte is a kind.
-fn all_known(kinds: &[u8]) -> bool
-    ensures { λ r. ⌜ r ≡ allKnown (now (kinds .entry)) ⌝ }
-{
-    let mut i = 0;
-    while i < kinds.len() {
-        if !is_known(conversions::kind_of(kinds[i])) {
-            return false;
-        }
-        i = i + 1;
-    }
-    true
-}
 
 // The answer of checking, from a pass.
 fn checked_of(w: Walked) -> Checked
@@ -82,7 +58,7 @@ pub fn check<'a>(fmt: &'a [u8], kinds: &'a [u8]) -> Checked
             place: 0,
         };
     }
-    if !all_known(kinds) {
+    if !conversions::all_known(kinds) {
         return Checked::Refused {
             number: refusals::BAD_KINDS,
             place: 0,

@@ -1,6 +1,6 @@
 -- Numbers as bytes, the low byte first. 01: "All little-endian"; "4 little-endian bytes each".
 use Prim.Native.Nat.{ℕ, zero, suc, _+_, _*_, _/_, _%_}
-use mathlib.Core.List.{List, [], _∷_}
+use mathlib.Core.List.{List, [], _∷_, _++_}
 use lib.ListN.{take, drop}
 
 -- The number of little-endian bytes.
@@ -16,3 +16,8 @@ wordAt k s at = littleEndian (take k (drop at s))
 abbrev pub bytesOf : ℕ → ℕ → List ℕ
 bytesOf zero n = []
 bytesOf (suc k) n = n % 256 ∷ bytesOf k (n / 256)
+
+-- "4 little-endian bytes each"
+unfoldable pub allBytes : List ℕ → List ℕ
+allBytes [] = []
+allBytes (n ∷ ns) = bytesOf 4 n ++ allBytes ns

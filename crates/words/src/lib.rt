@@ -1,9 +1,9 @@
 // Numbers as little-endian bytes.
 ghost use mathlib.Core.Path.{_≡_};
-ghost use Prim.Native.Nat.{_+_, _≤_, _<_};
+ghost use Prim.Native.Nat.{_+_, _*_, _≤_, _<_};
 ghost use lib.ListN.{length};
 ghost use Rattle.writing.specs.Laid.{laid};
-ghost use Rattle.words.specs.LittleEndian.{wordAt, bytesOf};
+ghost use Rattle.words.specs.LittleEndian.{wordAt, bytesOf, allBytes};
 
 fn wide(b: u8) -> u64
     ensures { λ r. ⌜ (r ≡ b) × (r < 256) ⌝ }
@@ -44,4 +44,16 @@ pub fn write_four(out: &mut [u8], n: u32)
     out[1] = (n / 256 % 256) as u8;
     out[2] = (n / 65536 % 256) as u8;
     out[3] = (n / 16777216 % 256) as u8;
+}
+
+// Numbers, four bytes each.
+pub fn write_fours(out: &mut [u8], numbers: &[u32])
+    requires { ⌜ 4 * length (now numbers) ≤ length (now out) ⌝ }
+    ensures { λ r. ⌜ now (out .exit) ≡ laid (now (out .entry)) (allBytes (now (numbers .entry))) ⌝ }
+{
+    let mut k: usize = 0;
+    while k < numbers.len() {
+        write_four(&mut out[4 * k..], numbers[k]);
+        k = k + 1;
+    }
 }

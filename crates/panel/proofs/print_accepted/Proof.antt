@@ -7,7 +7,7 @@ use lib.Seq.{length-take-le}
 use native.Mathlib.Omega.{arith}
 use Rattle.writing.specs.Laid.{laid}
 use Rattle.outcomes.proofs.Accepted.{Fitted, fitted}
-use Rattle.panel.specs.Entries.{allBytes}
+use Rattle.words.specs.LittleEndian.{allBytes}
 use borrow.Author.Needs.{needs}
 use Rattle.panel.proofs.print_accepted.Statement.{statement}
 use Rattle.panel.proofs.print_accepted.Tie as tie
@@ -27,11 +27,11 @@ write-text-requires c κs =
     let start = c .before .before .before .before .before .before .before .before .before .before in
     simp length-take (omega (arith, ok start .bytes))
 
-slice-aggregate-store-ends : tie.Need-slice-aggregate-store-ends
-slice-aggregate-store-ends c = sym (length-take-le _ _ (omega arith))
+slice-aggregate-write-fours : tie.Need-slice-aggregate-write-fours
+slice-aggregate-write-fours c = sym (length-take-le _ _ (omega arith))
 
-store-ends-requires : tie.Need-store-ends-requires
-store-ends-requires c κs =
+write-fours-requires : tie.Need-write-fours-requires
+write-fours-requires c κs =
     let start = c .before .before .before .before .before .before .before .before .before .before .before .before .before .before .before in
     simp length-take (omega (arith, ok start .slots-enough))
 
@@ -48,7 +48,7 @@ returns c =
     let a = start .args in
     let h = start .pre .1 (omega arith) (omega arith) in (
       laid-text .write-text .ensures .1 ∙ ap (laid (a .out .now)) (h .0),
-      c .before .before .store-ends .ensures ∙ ap (λ (l : List ℕ). laid (a .ends .now) (allBytes l)) (h .1),
+      c .before .before .write-fours .ensures ∙ ap (λ (l : List ℕ). laid (a .ends .now) (allBytes l)) (h .1),
     )
 
 print-long-requires : tie.Need-print-long-requires
@@ -69,8 +69,8 @@ print-accepted-spec =
     (tie.spec
     slice-aggregate-write-text
     write-text-requires
-    slice-aggregate-store-ends
-    store-ends-requires
+    slice-aggregate-write-fours
+    write-fours-requires
     same-length
     same-length-2
     returns

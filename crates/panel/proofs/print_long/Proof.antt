@@ -9,7 +9,7 @@ use Rattle.writing.specs.Laid.{laid}
 use Rattle.parsing.proofs.Cover.{few}
 use Rattle.rows.specs.Row.{kindsOf}
 use Rattle.outcomes.proofs.Accepted.{Fitted, fitted}
-use Rattle.panel.specs.Entries.{allBytes}
+use Rattle.words.specs.LittleEndian.{allBytes}
 use Rattle.panel.proofs.Slots.{text-of, ends-of}
 use borrow.Author.Needs.{needs}
 use Rattle.panel.proofs.print_long.Statement.{statement}
@@ -38,15 +38,15 @@ array-share-prefix-slots c =
     let e : length (staged .stage .last .1 .1 .1 .0) ≡ 512 = search needs in
     omega (arith, e, few-pieces start)
 
-slice-aggregate-store-ends : tie.Need-slice-aggregate-store-ends
-slice-aggregate-store-ends c =
+slice-aggregate-write-fours : tie.Need-slice-aggregate-write-fours
+slice-aggregate-write-fours c =
     let staged = c .before .before .before .before .before in
     let start = staged .before .before .before .before .before .before .before in
     let e : length (staged .stage .last .1 .1 .1 .0) ≡ 512 = search needs in
     sym (length-take-le _ _ (omega (arith, e, few-pieces start)))
 
-store-ends-requires : tie.Need-store-ends-requires
-store-ends-requires c κs =
+write-fours-requires : tie.Need-write-fours-requires
+write-fours-requires c κs =
     let start = c .before .before .before .before .before .before .before .before .before .before .before .before in
     simp length-take (omega (arith, ok start .slots-enough))
 
@@ -65,7 +65,7 @@ returns c =
     let v = staged .stage .ensures .1 in
     let text = text-of (a .fmt .now) (a .row .now) _ _ _ _ k _ _ _ _ v (k .bytes) in
     let z = ends-of (a .fmt .now) (a .row .now) _ _ _ _ k _ _ _ _ v (few-pieces start) in
-    (text, c .before .before .store-ends .ensures ∙ ap (λ (l : List ℕ). laid (a .ends .now) (allBytes l)) z)
+    (text, c .before .before .write-fours .ensures ∙ ap (λ (l : List ℕ). laid (a .ends .now) (allBytes l)) z)
 
 pub print-long-spec : {M : Type 1} → statement M
 print-long-spec =
@@ -74,8 +74,8 @@ print-long-spec =
     slice-aggregate-stage
     stage-requires
     array-share-prefix-slots
-    slice-aggregate-store-ends
-    store-ends-requires
+    slice-aggregate-write-fours
+    write-fours-requires
     same-length
     same-length-2
     returns)

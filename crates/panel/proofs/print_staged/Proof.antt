@@ -5,7 +5,7 @@ use lib.ListN.{length}
 use Rattle.outcomes.specs.Printed.{texts, printedText, endsFrom, ifRoom, printed, written}
 use Rattle.outcomes.specs.declared.Outcome.{Outcome}
 use Rattle.outcomes.proofs.Accepted.{fitted}
-use Rattle.panel.specs.Entries.{allBytes}
+use Rattle.words.specs.LittleEndian.{allBytes}
 use Rattle.panel.proofs.Slots.{holds}
 use borrow.Author.Needs.{needs}
 use Rattle.panel.proofs.print_staged.Statement.{statement}

@@ -1,15 +1,15 @@
--- `printing::all_known` meets its contract. The loop's invariant: the kinds from i on decide. Assumes nothing.
+-- `conversions::all_known` meets its contract. The loop's invariant: the kinds from i on decide. Assumes nothing.
 use Prim.Native.Nat.{_+_, _-_}
 use mathlib.Core.Path.{_≡_, refl, sym, ap, _∙_}
 use mathlib.Core.Bool.{Bool, _&&_}
 use lib.ListN.{length, drop}
 use native.Mathlib.Omega.{arith}
 use borrow.Author.Tests.{not-true, not-false}
-use Rattle.parsing.specs.Check.{isKnown, allKnown}
-use Rattle.printing.proofs.Known.{known-none, known-at}
+use Rattle.conversions.specs.Kinds.{isKnown, allKnown}
+use Rattle.conversions.proofs.Known.{known-none, known-at}
 use borrow.Author.Needs.{needs}
-use Rattle.printing.proofs.all_known.Statement.{statement}
-use Rattle.printing.proofs.all_known.Tie as tie
+use Rattle.conversions.proofs.all_known.Statement.{statement}
+use Rattle.conversions.proofs.all_known.Tie as tie
 
 abbrev Inv-loop : tie.InvT-loop
 Inv-loop kinds i₀ i = allKnown (drop i kinds) ≡ allKnown kinds

@@ -5,8 +5,7 @@ use mathlib.Core.List.{List}
 use Prim.Native.Nat.{ℕ, _+_, _≤_, _<_}
 use lib.ListN.{length, getD, drop}
 use Rattle.writing.proofs.Bytes.{byte-at, no-byte}
-use Rattle.conversions.specs.Kinds.{kindOf}
-use Rattle.parsing.specs.Check.{isKnown, allKnown}
+use Rattle.conversions.specs.Kinds.{kindOf, isKnown, allKnown}
 
 module _ (ks : List ℕ) (i : ℕ) where
   pub known-none : length ks ≤ i → allKnown (drop i ks) ≡ true

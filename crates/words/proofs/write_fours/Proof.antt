@@ -1,4 +1,4 @@
--- `panel::store_ends` meets its contract. Assumes nothing.
+-- `words::write_fours` meets its contract. Assumes nothing.
 use Prim.Native.Nat.{ℕ, suc, _+_, _-_, _*_, _≤_, _<_}
 use mathlib.Core.Path.{_≡_, refl, sym, ap, _∙_}
 use mathlib.Core.List.{List}
@@ -7,22 +7,21 @@ use lib.Seq.{take-all, length-take-le}
 use native.Mathlib.Omega.{arith}
 use Rattle.writing.specs.Laid.{laid}
 use Rattle.writing.proofs.Laid.{laid-none, laid-next, length-laid}
-use Rattle.words.specs.LittleEndian.{bytesOf}
-use Rattle.panel.specs.Entries.{allBytes}
-use Rattle.panel.proofs.Ends.{bytes-length, bytes-next}
+use Rattle.words.specs.LittleEndian.{bytesOf, allBytes}
+use Rattle.words.proofs.Fours.{bytes-length, bytes-next}
 use borrow.Author.Needs.{needs}
-use Rattle.panel.proofs.store_ends.Statement.{statement}
-use Rattle.panel.proofs.store_ends.Tie as tie
+use Rattle.words.proofs.write_fours.Statement.{statement}
+use Rattle.words.proofs.write_fours.Tie as tie
 
 abbrev Inv-loop : tie.InvT-loop
-Inv-loop ends₀ slots k₀ ends k = (k ≤ length slots) × (ends ≡ laid ends₀ (allBytes (take k slots))) × (length ends ≡ length ends₀)
+Inv-loop out₀ numbers k₀ out k = (k ≤ length numbers) × (out ≡ laid out₀ (allBytes (take k numbers))) × (length out ≡ length out₀)
 
 abbrev μ-loop : tie.MeasureT-loop
-μ-loop ends₀ slots k₀ ends k = length slots - k
+μ-loop out₀ numbers k₀ out k = length numbers - k
 
 loop-holds : tie.Need-loop-holds Inv-loop μ-loop
 unfolding allBytes
-loop-holds c = (omega arith, sym (laid-none (c .before .before .args .ends .now)), refl)
+loop-holds c = (omega arith, sym (laid-none (c .before .before .args .out .now)), refl)
 
 mul-write-four : tie.Need-mul-write-four Inv-loop μ-loop
 mul-write-four c = omega (arith, c .before .before .before .before .pre, c .before .loop .inv .2)
@@ -58,14 +57,14 @@ loop-again c =
     let in-loop = c .before .before .before .before .before .before in
     let start = in-loop .before .before .before in
     let l = in-loop .loop in
-    let d = start .args .ends .now in
-    let s = start .args .slots .now in
+    let d = start .args .out .now in
+    let s = start .args .numbers .now in
     let w = c .before .before .write-four in
     let k : l .k < length s = search needs in
     let t : length (allBytes (take (l .k) s)) ≡ 4 * l .k =
     bytes-length (take (l .k) s) ∙ ap (λ (m : ℕ). 4 * m) (length-take-le (l .k) s (omega arith)) in
     let o =
-    laid-next d (allBytes (take (l .k) s)) (bytesOf 4 (getD s (l .k) 0)) (l .ends) (w .last .0) (4 * l .k) (l .inv .1) t (w .ensures)
+    laid-next d (allBytes (take (l .k) s)) (bytesOf 4 (getD s (l .k) 0)) (l .out) (w .last .0) (4 * l .k) (l .inv .1) t (w .ensures)
     ∙ ap (laid d) (sym (bytes-next s (l .k) k)) in
     let e : suc (l .k) ≡ l .k + 1 = omega arith in
     let n : length (allBytes (take (suc (l .k)) s)) ≤ length d =
@@ -79,10 +78,10 @@ returns : tie.Need-returns Inv-loop μ-loop
 returns c =
     let a = c .before .before .before .before .args in
     let l = c .before .loop in
-    l .inv .1 ∙ ap (λ (m : List ℕ). laid (a .ends .now) (allBytes m)) (take-all (l .k) (a .slots .now) (omega arith))
+    l .inv .1 ∙ ap (λ (m : List ℕ). laid (a .out .now) (allBytes m)) (take-all (l .k) (a .numbers .now) (omega arith))
 
-pub store-ends-spec : {M : Type 1} → statement M
-store-ends-spec =
+pub write-fours-spec : {M : Type 1} → statement M
+write-fours-spec =
     tie.close
     (tie.spec
     Inv-loop
