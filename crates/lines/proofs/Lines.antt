@@ -11,7 +11,7 @@ use lib.ListN.{length, getD, take, length-append}
 use lib.Seq.{take-suc}
 use Rattle.numerals.specs.Digits.{decimal}
 use Rattle.numerals.proofs.Digits.{places-le, twenty-places, length-numeral}
-use Rattle.answers.specs.Answers.{line, numbersLine, endLines}
+use Rattle.lines.specs.Lines.{line, numbersLine, endLines}
 
 pub at-most-twenty : (n : ℕ) → n < 2 ^ 64 → length (decimal n) ≤ 20
 at-most-twenty n h = omega (arith, length-numeral false 10 n, twenty-places n h)

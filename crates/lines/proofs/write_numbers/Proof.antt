@@ -1,4 +1,4 @@
--- `answers::write_numbers` meets its contract. Assumes nothing.
+-- `lines::write_numbers` meets its contract. Assumes nothing.
 use Prim.Native.Char.{code}
 use Prim.Native.Nat.{_≤_}
 use mathlib.Core.Path.{ap, _∙_}
@@ -7,11 +7,11 @@ use native.Mathlib.Omega.{arith}
 use Rattle.writing.proofs.Laid.{length-laid}
 use Rattle.writing.proofs.Chained.{wrote-two, wrote-byte}
 use Rattle.numerals.specs.Digits.{decimal}
-use Rattle.answers.specs.Answers.{line}
-use Rattle.answers.proofs.Lines.{at-most-twenty, line-length, numbers-line}
+use Rattle.lines.specs.Lines.{line}
+use Rattle.lines.proofs.Lines.{at-most-twenty, line-length, numbers-line}
 use borrow.Author.Needs.{needs}
-use Rattle.answers.proofs.write_numbers.Statement.{statement}
-use Rattle.answers.proofs.write_numbers.Tie as tie
+use Rattle.lines.proofs.write_numbers.Statement.{statement}
+use Rattle.lines.proofs.write_numbers.Tie as tie
 
 -- how long the two numbers are
 short-a : (c : tie.Start) → length (decimal (c .args .a)) ≤ 20

@@ -1,4 +1,4 @@
--- `answers::write_ends` meets its contract. Assumes nothing.
+-- `lines::write_ends` meets its contract. Assumes nothing.
 use Prim.Native.Nat.{ℕ, _+_, _-_, _*_, _≤_, _<_}
 use mathlib.Core.Path.{_≡_, refl, sym, ap, _∙_}
 use lib.ListN.{length, getD, take, length-take, length-drop}
@@ -8,11 +8,11 @@ use Rattle.writing.specs.Writers.{Wrote}
 use Rattle.writing.proofs.Laid.{laid-none, length-laid}
 use Rattle.writing.proofs.Chained.{wrote-two}
 use Rattle.numerals.specs.Digits.{decimal}
-use Rattle.answers.specs.Answers.{line, endLines}
-use Rattle.answers.proofs.Lines.{at-most-ten, line-length, lines-next}
+use Rattle.lines.specs.Lines.{line, endLines}
+use Rattle.lines.proofs.Lines.{at-most-ten, line-length, lines-next}
 use borrow.Author.Needs.{needs}
-use Rattle.answers.proofs.write_ends.Statement.{statement}
-use Rattle.answers.proofs.write_ends.Tie as tie
+use Rattle.lines.proofs.write_ends.Statement.{statement}
+use Rattle.lines.proofs.write_ends.Tie as tie
 
 abbrev Inv-loop : tie.InvT-loop
 Inv-loop out₀ ends at₀ k₀ k-end out at k =

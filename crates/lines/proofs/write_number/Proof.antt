@@ -1,11 +1,11 @@
--- `answers::write_number` meets its contract. Assumes nothing.
+-- `lines::write_number` meets its contract. Assumes nothing.
 use mathlib.Core.Bool.{false}
 use native.Mathlib.Omega.{arith}
 use Rattle.numerals.specs.Digits.{digits, numeral}
 use Rattle.numerals.proofs.Digits.{length-numeral}
 use borrow.Author.Needs.{needs}
-use Rattle.answers.proofs.write_number.Statement.{statement}
-use Rattle.answers.proofs.write_number.Tie as tie
+use Rattle.lines.proofs.write_number.Statement.{statement}
+use Rattle.lines.proofs.write_number.Tie as tie
 
 decimal-len-requires : tie.Need-decimal-len-requires
 decimal-len-requires c κs = search needs
