@@ -1,11 +1,11 @@
--- `elements::format_string` meets its contract. Assumes nothing.
+-- `fields::format_string` meets its contract. Assumes nothing.
 use mathlib.Core.Path.{ap}
 use lib.ListN.{length}
 use native.Mathlib.Omega.{arith}
 use Rattle.strings.proofs.Cuts.{cut-shorter}
 use borrow.Author.Needs.{needs}
-use Rattle.elements.proofs.format_string.Statement.{statement}
-use Rattle.elements.proofs.format_string.Tie as tie
+use Rattle.fields.proofs.format_string.Statement.{statement}
+use Rattle.fields.proofs.format_string.Tie as tie
 
 cut-requires : tie.Need-cut-requires
 cut-requires c κs = search needs

@@ -1,20 +1,20 @@
--- `elements::put_padded` meets its contract. Assumes nothing.
+-- `fields::put_padded` meets its contract. Assumes nothing.
 use Prim.Native.Nat.{_+_, _^_, _≤_, _<_}
 use lib.ListN.{length}
 use native.Mathlib.Omega.{arith}
 use mathlib.Core.Path.{_≡_, sym}
 use mathlib.Core.Bool.{true}
+use Rattle.params.specs.Params.{widthOf}
 use Rattle.layout.specs.Frame.{frameOf}
 use Rattle.layout.specs.Around.{FramePut}
 use Rattle.layout.specs.declared.Prefix.the-variants.{NoPrefix}
 use Rattle.layout.proofs.Padded.{framed-room, framed-put, framed-not}
 use Rattle.strings.specs.Cut.{cased}
 use Rattle.strings.proofs.Cased.{length-cased}
-use Rattle.elements.specs.Texts.{side}
-use Rattle.numbers.specs.Numbers.{widthOf}
+use Rattle.fields.specs.Texts.{side}
 use borrow.Author.Needs.{needs}
-use Rattle.elements.proofs.put_padded.Statement.{statement}
-use Rattle.elements.proofs.put_padded.Tie as tie
+use Rattle.fields.proofs.put_padded.Statement.{statement}
+use Rattle.fields.proofs.put_padded.Tie as tie
 
 -- the start, from the place behind put_frame
 abbrev start : tie.After-put-frame → tie.Start

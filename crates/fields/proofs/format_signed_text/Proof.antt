@@ -1,12 +1,12 @@
--- `elements::format_signed_text` meets its contract. Assumes nothing.
+-- `fields::format_signed_text` meets its contract. Assumes nothing.
 use mathlib.Core.Path.{sym}
 use lib.ListN.{length-take}
 use lib.Seq.{length-take-le}
 use native.Mathlib.Omega.{arith}
-use Rattle.elements.proofs.Characters.{wrote-start}
+use Rattle.fields.proofs.Written.{wrote-start}
 use borrow.Author.Needs.{needs}
-use Rattle.elements.proofs.format_signed_text.Statement.{statement}
-use Rattle.elements.proofs.format_signed_text.Tie as tie
+use Rattle.fields.proofs.format_signed_text.Statement.{statement}
+use Rattle.fields.proofs.format_signed_text.Tie as tie
 
 slice-aggregate-write-signed-text : tie.Need-slice-aggregate-write-signed-text
 slice-aggregate-write-signed-text c = search needs

@@ -1,4 +1,4 @@
--- `elements::write_signed_text` meets its contract. Assumes nothing.
+-- `fields::write_signed_text` meets its contract. Assumes nothing.
 use Prim.Native.Nat.{ℕ, _≤_}
 use Prim.Native.Char.{code}
 use mathlib.Core.Path.{_≡_, refl, ap, _∙_}
@@ -8,11 +8,10 @@ use lib.ListN.{length, set, length-set, length-take, length-drop}
 use native.Mathlib.Omega.{arith}
 use Rattle.writing.proofs.Laid.{laid-first, laid-next, length-laid}
 use Rattle.numerals.specs.Digits.{digitsIn, lettersOf, decimal}
-use Rattle.numerals.proofs.Digits.{length-numeral, twenty-places}
-use Rattle.numbers.proofs.Numerals.{numeral-in}
+use Rattle.numerals.proofs.Digits.{length-numeral, numeral-in, twenty-places}
 use borrow.Author.Needs.{needs}
-use Rattle.elements.proofs.write_signed_text.Statement.{statement}
-use Rattle.elements.proofs.write_signed_text.Tie as tie
+use Rattle.fields.proofs.write_signed_text.Statement.{statement}
+use Rattle.fields.proofs.write_signed_text.Tie as tie
 
 -- the place behind decimal_len, from the end of each branch
 abbrev measured₁ : tie.After-slice-known2 → tie.After-decimal-len
