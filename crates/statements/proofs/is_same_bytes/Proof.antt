@@ -1,13 +1,13 @@
--- `records::is_same_bytes` meets its contract: the rest from i on compares as all does. Assumes nothing.
+-- `statements::is_same_bytes` meets its contract: the rest from i on compares as all does. Assumes nothing.
 use Prim.Native.Nat.{_-_, _≤_}
 use mathlib.Core.Path.{_≡_, sym, _∙_}
 use lib.ListN.{length, drop}
 use native.Mathlib.Omega.{arith}
-use Rattle.records.specs.Comparing.{sameList}
-use Rattle.records.proofs.Comparing.{same-next, same-not, same-none, not-as-long}
+use Rattle.statements.specs.Comparing.{sameList}
+use Rattle.statements.proofs.Comparing.{same-next, same-not, same-none, not-as-long}
 use borrow.Author.Needs.{needs}
-use Rattle.records.proofs.is_same_bytes.Statement.{statement}
-use Rattle.records.proofs.is_same_bytes.Tie as tie
+use Rattle.statements.proofs.is_same_bytes.Statement.{statement}
+use Rattle.statements.proofs.is_same_bytes.Tie as tie
 
 abbrev Inv-loop : tie.InvT-loop
 Inv-loop a b i₀ i = (length a ≡ length b) × (i ≤ length a) × (sameList a b ≡ sameList (drop i a) (drop i b))

@@ -3,11 +3,14 @@ use Prim.Native.Nat.{ℕ, zero, suc, _+_, _-_}
 use mathlib.Core.Bool.{Bool, true, false, _&&_}
 use mathlib.Core.List.{List, [], _∷_}
 use lib.Dec.{eqb}
-use lib.ListN.{length}
+use lib.ListN.{length, take, drop}
 use Rattle.words.specs.LittleEndian.{wordAt}
-use Rattle.records.specs.Records.{between}
-use Rattle.records.specs.declared.Stated.{Stated}
-use Rattle.records.specs.declared.Stated.the-variants.{Accepts, Prints, Refuses}
+use Rattle.statements.specs.declared.Stated.{Stated}
+use Rattle.statements.specs.declared.Stated.the-variants.{Accepts, Prints, Refuses}
+
+-- The part of a list from one offset up to another.
+abbrev pub between : ℕ → ℕ → List ℕ → List ℕ
+between from to s = take (to - from) (drop from s)
 
 -- Whether two lists are the same.
 unfoldable pub sameList : List ℕ → List ℕ → Bool

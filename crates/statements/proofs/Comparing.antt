@@ -11,9 +11,8 @@ use lib.ListN.{length, getD, drop}
 use lib.Seq.{drop-cons}
 use lib.ListN.{drop-of-length-le}
 use Rattle.words.specs.LittleEndian.{wordAt}
-use Rattle.records.specs.Records.{between}
-use Rattle.records.specs.Comparing.{sameList, fours, statesPrinted}
-use Rattle.records.specs.declared.Stated.the-variants.{Prints}
+use Rattle.statements.specs.Comparing.{between, sameList, fours, statesPrinted}
+use Rattle.statements.specs.declared.Stated.the-variants.{Prints}
 
 -- Lists compare as the same exactly where they are.
 pub same-refl : (a : List ℕ) → sameList a a ≡ true

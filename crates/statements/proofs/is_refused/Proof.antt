@@ -1,8 +1,8 @@
--- `records::is_refused` meets its contract, by cases on what is stated. Assumes nothing.
+-- `statements::is_refused` meets its contract, by cases on what is stated. Assumes nothing.
 use borrow.Author.Tests.{eq-eqb, ne-eqb}
 use borrow.Author.Needs.{needs}
-use Rattle.records.proofs.is_refused.Statement.{statement}
-use Rattle.records.proofs.is_refused.Tie as tie
+use Rattle.statements.proofs.is_refused.Statement.{statement}
+use Rattle.statements.proofs.is_refused.Tie as tie
 
 enum-told : tie.Need-enum-told
 enum-told c = search needs

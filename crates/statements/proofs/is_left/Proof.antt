@@ -1,10 +1,10 @@
--- `records::is_left` meets its contract, comparison by comparison. Assumes nothing.
+-- `statements::is_left` meets its contract, comparison by comparison. Assumes nothing.
 use mathlib.Core.Path.{sym, _∙_}
 use borrow.Author.Tests.{eq-eqb, ne-eqb}
-use Rattle.records.proofs.Comparing.{left-ends, left-text}
+use Rattle.statements.proofs.Comparing.{left-ends, left-text}
 use borrow.Author.Needs.{needs}
-use Rattle.records.proofs.is_left.Statement.{statement}
-use Rattle.records.proofs.is_left.Tie as tie
+use Rattle.statements.proofs.is_left.Statement.{statement}
+use Rattle.statements.proofs.is_left.Tie as tie
 
 sub-if1 : tie.Need-sub-if1
 sub-if1 c = search needs

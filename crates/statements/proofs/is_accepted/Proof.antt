@@ -1,8 +1,8 @@
--- `records::is_accepted` meets its contract, by cases on what is stated. Assumes nothing.
+-- `statements::is_accepted` meets its contract, by cases on what is stated. Assumes nothing.
 use borrow.Author.Tests.{eq-eqb, ne-eqb}
 use borrow.Author.Needs.{needs}
-use Rattle.records.proofs.is_accepted.Statement.{statement}
-use Rattle.records.proofs.is_accepted.Tie as tie
+use Rattle.statements.proofs.is_accepted.Statement.{statement}
+use Rattle.statements.proofs.is_accepted.Tie as tie
 
 enum-known-stated : tie.Need-enum-known-stated
 enum-known-stated c = search needs

@@ -1,7 +1,7 @@
--- `records::is_printed` meets its contract, by cases on what is stated. Assumes nothing.
+-- `statements::is_printed` meets its contract, by cases on what is stated. Assumes nothing.
 use borrow.Author.Needs.{needs}
-use Rattle.records.proofs.is_printed.Statement.{statement}
-use Rattle.records.proofs.is_printed.Tie as tie
+use Rattle.statements.proofs.is_printed.Statement.{statement}
+use Rattle.statements.proofs.is_printed.Tie as tie
 
 enum-told : tie.Need-enum-told
 enum-told c = search needs

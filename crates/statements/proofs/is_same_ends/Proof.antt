@@ -1,13 +1,13 @@
--- `records::is_same_ends` meets its contract: the ends from i on compare as all do. Assumes nothing.
+-- `statements::is_same_ends` meets its contract: the ends from i on compare as all do. Assumes nothing.
 use Prim.Native.Nat.{_+_, _*_, _-_, _≤_}
 use mathlib.Core.Path.{_≡_, sym, _∙_}
 use lib.ListN.{length, drop}
 use native.Mathlib.Omega.{arith}
-use Rattle.records.specs.Comparing.{sameList, fours}
-use Rattle.records.proofs.Comparing.{fours-first, fours-next, fours-not, fours-none}
+use Rattle.statements.specs.Comparing.{sameList, fours}
+use Rattle.statements.proofs.Comparing.{fours-first, fours-next, fours-not, fours-none}
 use borrow.Author.Needs.{needs}
-use Rattle.records.proofs.is_same_ends.Statement.{statement}
-use Rattle.records.proofs.is_same_ends.Tie as tie
+use Rattle.statements.proofs.is_same_ends.Statement.{statement}
+use Rattle.statements.proofs.is_same_ends.Tie as tie
 
 abbrev Inv-loop : tie.InvT-loop
 Inv-loop ends list at i₀ i =
