@@ -7,7 +7,8 @@ use lib.ListN.{length, take, drop, length-drop}
 use lib.Seq.{take-all}
 use borrow.Author.Tests.{le-leb, lt-leb}
 use Rattle.writing.specs.Text.{ascii}
-use Rattle.answers.specs.Answers.{lengthOf, formatOf, rowOf, line, printedAnswer, answerText}
+use Rattle.lines.specs.Lines.{line}
+use Rattle.answers.specs.Answers.{lengthOf, formatOf, rowOf, printedAnswer, answerText}
 
 module _ (s : List ℕ) where
   pub no-length : length s < 2 → answerText s ≡ line (ascii "no input")

@@ -1,12 +1,12 @@
 -- What the program `sheet` reads and what it prints. 01, "Cases", from "Program `sheet`" on.
 use Prim.Native.Nat.{ℕ, _+_}
 use mathlib.Core.Bool.{Bool, _&&_}
-use mathlib.Core.List.{List, [], _∷_, _++_}
+use mathlib.Core.List.{List, _++_}
 use lib.Dec.{leb}
 use lib.ListN.{length, take, drop}
 use Rattle.writing.specs.Choose.{choose}
 use Rattle.writing.specs.Text.{ascii}
-use Rattle.numerals.specs.Digits.{decimal}
+use Rattle.lines.specs.Lines.{line, numbersLine, endLines}
 use Rattle.words.specs.LittleEndian.{wordAt}
 use Rattle.outcomes.specs.Printed.{texts, printedText, endsFrom, printed}
 use Rattle.outcomes.specs.declared.Outcome.{Outcome}
@@ -37,19 +37,6 @@ rowOf s = drop (2 + lengthOf s) s
 -- What "A missing length, or one beyond the input" excludes.
 abbrev pub hasFormat : List ℕ → Bool
 hasFormat s = leb 2 (length s) && leb (2 + lengthOf s) (length s)
-
--- Every line ends with byte 10.
-abbrev pub line : List ℕ → List ℕ
-line t = t ++ (10 ∷ [])
-
--- A word and two numbers on a line.
-abbrev pub numbersLine : List ℕ → ℕ → ℕ → List ℕ
-numbersLine word a b = line (word ++ decimal a ++ ascii " " ++ decimal b)
-
--- "one end a line"
-unfoldable pub endLines : List ℕ → List ℕ
-endLines [] = []
-endLines (e ∷ es) = line (decimal e) ++ endLines es
 
 -- "Fields: length, pieces; the text; one end a line. A refusal is `no`, number, place on one line."
 abbrev pub outcomeText : Outcome → List ℕ → List ℕ → List ℕ

@@ -3,6 +3,7 @@ use Prim.Native.Nat.{ℕ}
 use mathlib.Core.Path.{_≡_, refl, sym, ap, _∙_}
 use mathlib.Core.Bool.{Bool, true, false}
 use mathlib.Core.List.{List, []}
+use Rattle.params.specs.Params.{widthOf}
 use Rattle.layout.specs.Frame.{closing}
 use Rattle.layout.specs.Signs.{isMinus}
 use Rattle.layout.specs.declared.Mark.{Mark}
@@ -21,7 +22,7 @@ use Rattle.reading.proofs.Denotes.{denotes}
 use Rattle.flags.specs.declared.Flags.{Flags}
 use Rattle.specifiers.specs.declared.Element.{Element}
 use Rattle.elements.specs.Texts.{floatText}
-use Rattle.numbers.specs.Numbers.{widthOf, fill, hexPrefix, floatMark, finiteText}
+use Rattle.numbers.specs.Numbers.{fill, hexPrefix, floatMark, finiteText}
 use Rattle.columns.specs.Columns.{FloatRead}
 use Rattle.columns.proofs.Forms.{floatLetter, FiniteRead}
 use Rattle.columns.proofs.Frames.{padded-read, sign-mark}

@@ -14,6 +14,7 @@ use Rattle.writing.proofs.Choose.{by-test}
 use Rattle.numerals.specs.Digits.{digits, lettersOf, numeral, decimal}
 use Rattle.numerals.specs.Integers.{intOf, isNegative, signed, bitsOf, InWidth}
 use Rattle.numerals.proofs.Integers.{sign-magnitude, intOf-low, intOf-high, low-bits}
+use Rattle.params.specs.Params.{widthOf}
 use Rattle.layout.specs.Signs.{isMinus}
 use Rattle.layout.specs.declared.Mark.{Mark}
 use Rattle.layout.specs.declared.Mark.the-variants.{NoMark}
@@ -29,7 +30,7 @@ use Rattle.numerals.specs.declared.Radix.the-variants as R
 use Rattle.flags.specs.declared.Flags.{Flags}
 use Rattle.specifiers.specs.declared.Element.{Element}
 use Rattle.entries.specs.Entry.{holds}
-use Rattle.numbers.specs.Numbers.{widthOf, fill, integerMark, commas, ifAlternate, hexPrefix, paddedNumber, numeralText}
+use Rattle.numbers.specs.Numbers.{fill, integerMark, commas, ifAlternate, hexPrefix, paddedNumber, numeralText}
 use Rattle.columns.proofs.Forms.{numeralLetter, NumeralRead}
 use Rattle.columns.proofs.Frames.{padded-read, sign-mark}
 

@@ -1,21 +1,11 @@
--- Texts that were written, and characters by number. Assumes nothing.
-use mathlib.Core.Path.{_≡_, refl, sym, ap, _∙_}
+-- Characters by number. Assumes nothing.
+use mathlib.Core.Path.{_≡_, refl, sym}
 use mathlib.Core.Bool.{Bool, true, false, _&&_, _||_, true≢false}
-use mathlib.Core.List.{List}
 use Prim.Native.Nat.{ℕ, _≤_}
 use native.Mathlib.Omega.{arith}
 use lib.Dec.{leb, ltb}
-use lib.ListN.{length, take, drop}
-use lib.Seq.{take-at}
 use borrow.Author.Tests.{ltb-true, leb-true}
-use Rattle.writing.specs.Laid.{laid}
-use Rattle.writing.specs.Writers.{Wrote}
 use Rattle.scalars.specs.Scalars.{isScalar}
-
--- a text that was written is read again
-pub wrote-start : (d t out : List ℕ) (n : ℕ) → Wrote d t n out → take n out ≡ t
-unfolding laid
-wrote-start d t out n w = ap (take n) (w .1) ∙ take-at t (drop (length t) d) n (sym (w .0))
 
 -- a scalar value is no more than 0x10ffff
 pub scalar-within : (c : ℕ) → isScalar c ≡ true → c ≤ 0x10ffff

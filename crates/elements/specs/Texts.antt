@@ -1,21 +1,14 @@
 -- The text of a row's value under an element. 01, "A row printed, or only measured".
 use Prim.Native.Nat.{ℕ}
-use Prim.Native.Char.{code}
-use mathlib.Core.Bool.{Bool, true, false}
-use mathlib.Core.List.{List, [], _∷_}
+use mathlib.Core.Bool.{Bool}
+use mathlib.Core.List.{List, []}
 use mathlib.Core.Option.{Option, none, some}
 use lib.Dec.{eqb}
 use lib.IntN.{natAbs}
 use Rattle.writing.specs.Choose.{choose}
 use Rattle.writing.specs.Text.{ascii}
-use Rattle.numerals.specs.Digits.{decimal}
 use Rattle.numerals.specs.Integers.{intOf, isNegative}
-use Rattle.layout.specs.Frame.{padded}
-use Rattle.layout.specs.declared.Mark.{Mark}
 use Rattle.layout.specs.declared.Mark.the-variants.{NoMark}
-use Rattle.layout.specs.declared.Prefix.the-variants.{NoPrefix}
-use Rattle.layout.specs.declared.Adjust.{Adjust}
-use Rattle.layout.specs.declared.Adjust.the-variants.{Right, Left}
 use Rattle.binary64.specs.Fields.{negative, categoryOf}
 use Rattle.binary64.specs.declared.FpCategory.{FpCategory}
 use Rattle.binary64.specs.declared.FpCategory.the-variants as C
@@ -24,29 +17,11 @@ use Rattle.conversions.specs.declared.IntegerForm.{IntegerForm}
 use Rattle.conversions.specs.declared.IntegerForm.the-variants.{Numeral, Scalar, Digits}
 use Rattle.conversions.specs.declared.Form.{Form}
 use Rattle.conversions.specs.declared.Form.the-variants as F
-use Rattle.flags.specs.declared.Flags.{Flags}
 use Rattle.specifiers.specs.declared.Element.{Element}
-use Rattle.numbers.specs.Numbers.{widthOf, numeralText, floatMark, finiteText}
+use Rattle.numbers.specs.Numbers.{numeralText, floatMark, finiteText}
 use Rattle.scalars.specs.Scalars.{isScalar, utf8Of}
-use Rattle.strings.specs.Cut.{cutTo, cased}
 use Rattle.entries.specs.Entry.{isNull}
-
--- Where the padding stands: `-` decides; "`0` pads with spaces" under %s, %c and %b.
-abbrev pub side : Flags → Adjust
-side f = choose (f .left) (λ _. Left) (λ _. Right)
-
--- A text in capitals or not, padded to the element's width.
-abbrev pub paddedText : Element → Mark → List ℕ → List ℕ
-paddedText e m t = padded (widthOf (e .width)) (side (e .flags)) m NoPrefix (cased (e .upper) t)
-
--- `format_string`: a text, cut to the precision, in capitals or not, padded to the width.
-abbrev pub formatString : Element → List ℕ → List ℕ
-formatString e t = paddedText e NoMark (cutTo (e .precision) t)
-
--- An integer's digits as text.
-abbrev pub signedText : Bool → ℕ → List ℕ
-signedText false n = decimal n
-signedText true n = code "-" ∷ decimal n
+use Rattle.fields.specs.Texts.{paddedText, formatString, signedText}
 
 -- A text, or the number that stops the call.
 pub data Shown : Type 0 where

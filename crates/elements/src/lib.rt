@@ -1,75 +1,27 @@
 // The text of a row's value under an element: its length, and its writer, which writes where there is room.
-// Ported from format_string.rs of datafusion-spark 55.2.0 (Apache-2.0; see NOTICE): format_integer, format_char, format_boolean, format_string and
-// format_hex_float, but for the text of a number, which is `numbers`.
+// Ported from format_string.rs of datafusion-spark 55.2.0 (Apache-2.0; see NOTICE): format_integer, format_char, format_boolean and
+// format_hex_float, but for the text of a number, which is `numbers`, and a text in its field, which is `fields`.
 use binary64::FpCategory;
 use conversions::Form;
 use conversions::IntegerForm;
-use flags::Flags;
-use layout::Adjust;
 use layout::Mark;
-use layout::Prefix;
-use numerals::Radix;
 use specifiers::Element;
-ghost use mathlib.Core.Path.{_≡_};
 ghost use mathlib.Core.Bool.{false};
 ghost use mathlib.Core.List.{[]};
-ghost use Prim.Native.Nat.{_^_, _≤_, _<_};
+ghost use Prim.Native.Nat.{_^_, _<_};
 ghost use lib.IntN.{natAbs};
 ghost use lib.ListN.{length};
-ghost use Rattle.writing.specs.Writers.{Wrote, Put};
+ghost use Rattle.writing.specs.Writers.{Put};
 ghost use Rattle.numerals.specs.Integers.{intOf, isNegative};
 ghost use Rattle.binary64.specs.Fields.{categoryOf};
 ghost use Rattle.conversions.specs.declared.Form.the-variants as F;
-ghost use Rattle.elements.specs.Texts.{side, paddedText, formatString, signedText, charText, floatText, integerText, valueText, elementText, textOf};
+ghost use Rattle.elements.specs.Texts.{charText, floatText, integerText, valueText, elementText, textOf};
 ghost use Rattle.elements.specs.Sizes.{Sized};
 
 // The length of a text, or the number that stops it.
 pub enum Size {
     Bytes(u64),
     Stops(u8),
-}
-
-// Where spaces stand: behind with `-`, else in front.
-fn side_of(flags: Flags) -> Adjust
-    ensures { λ r. ⌜ r ≡ side flags ⌝ }
-{
-    if flags.left {
-        return Adjust::Left;
-    }
-    Adjust::Right
-}
-
-// A text in capitals or not, padded to the element's width.
-fn put_padded(out: &mut [u8], e: Element, mark: Mark, text: &[u8]) -> u64
-    requires { ⌜ length (now text) < 2 ^ 32 ⌝ }
-    ensures { λ r. ⌜ Put (now (out .entry)) (paddedText e mark (now (text .entry))) r (now (out .exit)) × (r < 2 ^ 42) ⌝ }
-{
-    let width = e.width;
-    let flags = e.flags;
-    let n = text.len() as u64;
-    let framed = layout::put_frame(
-        out,
-        numbers::width_of(width),
-        side_of(flags),
-        mark,
-        Prefix::NoPrefix,
-        n,
-    );
-    let total = framed.added + n;
-    if framed.fits {
-        let at = framed.at;
-        strings::write_cased(&mut out[at..], text, e.upper);
-    }
-    total
-}
-
-// A text, cut to the precision, in capitals or not, padded to the width.
-fn format_string(out: &mut [u8], e: Element, text: &[u8]) -> u64
-    requires { ⌜ length (now text) < 2 ^ 32 ⌝ }
-    ensures { λ r. ⌜ Put (now (out .entry)) (formatString e (now (text .entry))) r (now (out .exit)) × (r < 2 ^ 42) ⌝ }
-{
-    let precision = e.precision;
-    put_padded(out, e, Mark::NoMark, strings::cut(precision, text))
 }
 
 // %c
@@ -83,35 +35,9 @@ fn format_char(out: &mut [u8], e: Element, value: u64) -> Size
     if scalars::is_scalar(magnitude) {
         let mut buffer = [0u8; 4];
         let n = scalars::write_scalar(&mut buffer, magnitude as u32);
-        return Size::Bytes(put_padded(out, e, Mark::NoMark, &buffer[..n]));
+        return Size::Bytes(fields::put_padded(out, e, Mark::NoMark, &buffer[..n]));
     }
     Size::Stops(refusals::NO_SCALAR)
-}
-
-// Writes an integer's digits as text. Answers the length.
-fn write_signed_text(out: &mut [u8], negative: bool, magnitude: u64) -> usize
-    requires { ⌜ 21 ≤ length (now out) ⌝ }
-    ensures { λ r. ⌜ Wrote (now (out .entry)) (signedText negative magnitude) r (now (out .exit)) × (r ≤ 21) ⌝ }
-{
-    let n = numerals::decimal_len(magnitude);
-    if negative {
-        out[0] = b'-';
-        return 1 + numerals::write_digits(&mut out[1..], magnitude, Radix::Decimal, n, false);
-    }
-    numerals::write_digits(out, magnitude, Radix::Decimal, n, false)
-}
-
-// %s of an integer
-fn format_signed_text(out: &mut [u8], e: Element, value: u64) -> u64
-    ensures { λ r. ⌜ Put (now (out .entry)) (formatString e (signedText (isNegative (intOf 64 value)) (natAbs (intOf 64 value)))) r (now (out .exit)) × (r < 2 ^ 42) ⌝ }
-{
-    let mut buffer = [0u8; 21];
-    let n = write_signed_text(
-        &mut buffer,
-        numerals::is_negative(value),
-        numerals::magnitude(value),
-    );
-    format_string(out, e, &buffer[..n])
 }
 
 // An integer of this width that is not null.
@@ -123,7 +49,7 @@ fn format_integer(out: &mut [u8], e: Element, form: IntegerForm, width: u32, val
             Size::Bytes(numbers::format_numeral(out, e, radix, width, value))
         }
         IntegerForm::Scalar => format_char(out, e, value),
-        IntegerForm::Digits => Size::Bytes(format_signed_text(out, e, value)),
+        IntegerForm::Digits => Size::Bytes(fields::format_signed_text(out, e, value)),
     }
 }
 
@@ -134,10 +60,10 @@ fn format_hex_float(out: &mut [u8], e: Element, bits: u64) -> u64
     let flags = e.flags;
     let category = binary64::category(bits);
     match category {
-        FpCategory::Nan => put_padded(out, e, Mark::NoMark, b"NaN"),
+        FpCategory::Nan => fields::put_padded(out, e, Mark::NoMark, b"NaN"),
         FpCategory::Infinite => {
             let parts = binary64::to_parts(bits);
-            put_padded(
+            fields::put_padded(
                 out,
                 e,
                 numbers::float_mark(flags, parts.negative),
@@ -153,9 +79,9 @@ fn format_boolean(out: &mut [u8], e: Element, value: u64) -> u64
     ensures { λ r. ⌜ Put (now (out .entry)) (textOf (valueText e F.Boolean false [] value)) r (now (out .exit)) × (r < 2 ^ 42) ⌝ }
 {
     if value == 0 {
-        return format_string(out, e, b"false");
+        return fields::format_string(out, e, b"false");
     }
-    format_string(out, e, b"true")
+    fields::format_string(out, e, b"true")
 }
 
 // Writes an element for a row's entry where there is room for it: its kind byte, the text it names, its value.
@@ -171,13 +97,13 @@ pub fn put_element(out: &mut [u8], e: Element, kind: u8, part: &[u8], value: u64
             width,
         } => {
             if 128 <= kind {
-                return Size::Bytes(format_string(out, e, b"null"));
+                return Size::Bytes(fields::format_string(out, e, b"null"));
             }
             format_integer(out, e, written, width, value)
         }
         Form::HexFloat => Size::Bytes(format_hex_float(out, e, value)),
         Form::Boolean => Size::Bytes(format_boolean(out, e, value)),
-        Form::Text => Size::Bytes(format_string(out, e, part)),
+        Form::Text => Size::Bytes(fields::format_string(out, e, part)),
         Form::NotPrinted => Size::Stops(refusals::NOT_PRINTED),
     }
 }

@@ -5,7 +5,7 @@ use mathlib.Core.List.{List}
 use Prim.Native.Nat.{ℕ}
 use lib.IntN.{natAbs}
 use Rattle.writing.specs.Choose.{choose}
-use Rattle.numerals.specs.Digits.{digitsIn, places, digits, lettersOf, numeral, decimal}
+use Rattle.numerals.specs.Digits.{decimal}
 use Rattle.numerals.specs.Grouping.{grouped}
 use Rattle.numerals.specs.Integers.{intOf, isNegative}
 use Rattle.layout.specs.declared.Prefix.the-variants.{NoPrefix}
@@ -14,11 +14,6 @@ use Rattle.numerals.specs.declared.Radix.the-variants as R
 use Rattle.specifiers.specs.declared.Element.{Element}
 use Rattle.numbers.specs.Numbers.{paddedNumber, integerMark, commas, numeralText}
 use Rattle.numbers.specs.Numerals.{digitsText, numeralOf}
-
--- as many digits as a number has are its numeral
-pub numeral-in : (u : Bool) (b n k : ℕ) → k ≡ places b n → lettersOf u (digitsIn b k n) ≡ numeral u b n
-unfolding numeral digits
-numeral-in u b n k e = rw e refl
 
 commas-or-none : (b : Bool) (t : List ℕ) → choose b (λ _. grouped t) (λ _. t) ≡ commas b t
 commas-or-none true t = refl

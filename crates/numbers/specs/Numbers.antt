@@ -7,8 +7,7 @@ use Rattle.writing.specs.Choose.{choose}
 use Rattle.numerals.specs.Digits.{numeral, decimal}
 use Rattle.numerals.specs.Grouping.{grouped}
 use Rattle.numerals.specs.Integers.{intOf, isNegative}
-use Rattle.params.specs.declared.NumericParam.{NumericParam}
-use Rattle.params.specs.declared.NumericParam.the-variants.{Literal, FromArgument}
+use Rattle.params.specs.Params.{widthOf}
 use Rattle.layout.specs.Frame.{padded}
 use Rattle.layout.specs.declared.Mark.{Mark}
 use Rattle.layout.specs.declared.Mark.the-variants.{NoMark, Plus, Space, Minus, Brackets}
@@ -23,11 +22,6 @@ use Rattle.numerals.specs.declared.Radix.{Radix}
 use Rattle.numerals.specs.declared.Radix.the-variants as R
 use Rattle.flags.specs.declared.Flags.{Flags}
 use Rattle.specifiers.specs.declared.Element.{Element}
-
--- A width that is absent pads nothing.
-abbrev pub widthOf : NumericParam → ℕ
-widthOf FromArgument = 0
-widthOf (Literal w) = w
 
 -- Where a number's padding stands: `-` decides, else `0` makes it zeros.
 abbrev pub fill : Flags → Adjust

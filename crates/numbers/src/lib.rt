@@ -6,13 +6,12 @@ use layout::Adjust;
 use layout::Mark;
 use layout::Prefix;
 use numerals::Radix;
-use params::NumericParam;
 use specifiers::Element;
 ghost use mathlib.Core.Path.{_≡_};
 ghost use Prim.Native.Nat.{_^_, _≤_, _<_};
 ghost use lib.ListN.{length};
 ghost use Rattle.writing.specs.Writers.{Wrote, Put};
-ghost use Rattle.numbers.specs.Numbers.{widthOf, fill, paddedNumber, signMark, integerMark, ifAlternate, hexPrefix, numeralText, floatMark, finiteText};
+ghost use Rattle.numbers.specs.Numbers.{fill, paddedNumber, signMark, integerMark, ifAlternate, hexPrefix, numeralText, floatMark, finiteText};
 ghost use Rattle.numbers.specs.Numerals.{digitsText, signedNumeral, unsignedNumeral, numeralOf};
 
 // An integer as digits in a base, with its mark and prefix; with commas where grouped is set.
@@ -23,15 +22,6 @@ pub struct Numeral {
     pub radix: Radix,
     pub upper: bool,
     pub grouped: bool,
-}
-
-pub fn width_of(width: NumericParam) -> u32
-    ensures { λ r. ⌜ r ≡ widthOf width ⌝ }
-{
-    match width {
-        NumericParam::Literal(w) => w,
-        NumericParam::FromArgument => 0,
-    }
 }
 
 // Where a number's padding stands: zeros with `0`.
@@ -145,7 +135,7 @@ fn put_framed_numeral(out: &mut [u8], e: Element, n: Numeral) -> u64
     let len = numeral_len(n);
     let framed = layout::put_frame(
         out,
-        width_of(width),
+        params::width_of(width),
         fill_of(flags),
         mark,
         prefix,
@@ -166,7 +156,7 @@ fn put_numeral(out: &mut [u8], e: Element, n: Numeral) -> u64
     let width = e.width;
     let mark = n.mark;
     let prefix = n.prefix;
-    if layout::is_bare(width_of(width), mark, prefix) {
+    if layout::is_bare(params::width_of(width), mark, prefix) {
         return put_bare_numeral(out, n);
     }
     put_framed_numeral(out, e, n)
@@ -242,7 +232,7 @@ pub fn format_finite(out: &mut [u8], e: Element, bits: u64) -> u64
     let n = hexfloats::hex_float_len(float);
     let framed = layout::put_frame(
         out,
-        width_of(width),
+        params::width_of(width),
         fill_of(flags),
         mark,
         hex_prefix(upper),

@@ -264,6 +264,11 @@ pub length-numeral : (u : Bool) (b n : ℕ) → length (numeral u b n) ≡ place
 unfolding numeral digits
 length-numeral u b n = length-lettersIn u b (places b n) n
 
+-- as many digits as a number has are its numeral
+pub numeral-in : (u : Bool) (b n k : ℕ) → k ≡ places b n → lettersOf u (digitsIn b k n) ≡ numeral u b n
+unfolding numeral digits
+numeral-in u b n k e = rw e refl
+
 pub number-digits : (b n : ℕ) → 2 ≤ b → numberOf b (digits b n) ≡ n
 unfolding digits numberOf
 number-digits b n h = number-digitsIn b 0 (places b n) n (omega arith) ∙ ap (λ (z : ℕ). 0 * b ^ places b n + z) (mod-eq-of-lt (places-fits b n h)) ∙ omega arith

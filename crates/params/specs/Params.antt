@@ -8,6 +8,7 @@ use lib.ListN.{length, drop}
 use Rattle.refusals.specs.Limits.{largestNumber}
 use Rattle.writing.specs.Choose.{choose}
 use Rattle.numerals.specs.Digits.{numberOf}
+use Rattle.params.specs.declared.NumericParam.{NumericParam}
 use Rattle.params.specs.declared.NumericParam.the-variants.{Literal, FromArgument}
 use Rattle.params.specs.declared.Number.{Number}
 use Rattle.params.specs.declared.Number.the-variants as N
@@ -46,3 +47,8 @@ paramOf N.TooLarge = TooLarge
 
 unfoldable pub paramAt : Bool → List ℕ → ℕ → Taken
 paramAt zero s at = choose (isParam zero (drop at s)) (λ _. paramOf (numberAt s at)) (λ _. Param FromArgument at)
+
+-- A width that is absent pads nothing.
+abbrev pub widthOf : NumericParam → ℕ
+widthOf FromArgument = 0
+widthOf (Literal w) = w

@@ -3,7 +3,7 @@
 ghost use mathlib.Core.Path.{_≡_};
 ghost use Prim.Native.Nat.{_+_};
 ghost use lib.ListN.{length, drop};
-ghost use Rattle.params.specs.Params.{beginsParam, leadingDigits, numberAt, paramAt};
+ghost use Rattle.params.specs.Params.{beginsParam, leadingDigits, numberAt, paramAt, widthOf};
 
 // A width, precision or index: digits, or none given. The original's names.
 pub enum NumericParam {
@@ -109,4 +109,13 @@ pub fn digits_end(s: &[u8], at: usize) -> usize
         end = end + 1;
     }
     end
+}
+
+pub fn width_of(width: NumericParam) -> u32
+    ensures { λ r. ⌜ r ≡ widthOf width ⌝ }
+{
+    match width {
+        NumericParam::Literal(w) => w,
+        NumericParam::FromArgument => 0,
+    }
 }

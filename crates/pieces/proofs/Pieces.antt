@@ -18,7 +18,8 @@ use Rattle.entries.specs.Entry.{isNull}
 use Rattle.rows.specs.Row.{kindByteOf, valueOf, namedText}
 use Rattle.rows.specs.Arguments.{Argument, isText, handedOut}
 use Rattle.rows.proofs.Rows.{kinds-length}
-use Rattle.elements.specs.Texts.{Shown, Text, Stops, paddedText, valueText, elementText, textOf, stopOf}
+use Rattle.fields.specs.Texts.{paddedText}
+use Rattle.elements.specs.Texts.{Shown, Text, Stops, valueText, elementText, textOf, stopOf}
 use Rattle.elements.specs.Sizes.{Sized, sizeOf}
 use Rattle.elements.specs.declared.Size.{Size}
 use Rattle.elements.specs.declared.Size.the-variants as S

@@ -1,4 +1,3 @@
 pub mod Records
 pub mod Places
-pub mod Comparing
 pub mod Verdicts

@@ -1,11 +1,10 @@
 -- What follows of the places of a record that was read: each lies in the list, behind the one before. Only steps of the code speak of it.
-use Prim.Native.Nat.{ℕ, _+_, _*_, _≤_, _<_}
+use Prim.Native.Nat.{ℕ, _+_, _≤_, _<_}
 use mathlib.Core.List.{List}
 use lib.ListN.{length}
+use Rattle.statements.specs.Places.{TextLies}
 use Rattle.records.specs.declared.End.{End}
 use Rattle.records.specs.declared.End.the-variants.{At, Outside}
-use Rattle.records.specs.declared.Stated.{Stated}
-use Rattle.records.specs.declared.Stated.the-variants.{Accepts, Prints, Refuses}
 use Rattle.records.specs.declared.Read.{Read}
 use Rattle.records.specs.declared.Read.the-variants.{Whole as AWhole, Broken as ABroken}
 use Rattle.records.specs.declared.Record.{Record}
@@ -15,11 +14,6 @@ use Rattle.records.specs.declared.Found.the-variants.{Whole, Broken}
 abbrev pub EndLies : List ℕ → ℕ → End → Type 0
 EndLies s at (At end) = (at + 2 ≤ end) × (end ≤ length s)
 EndLies s at Outside = Unit {0}
-
-abbrev pub TextLies : ℕ → Stated → Type 0
-TextLies n (Accepts pieces largest) = Unit {0}
-TextLies n (Prints text end pieces) = (text ≤ end) × (end + 2 + 4 * pieces ≤ n)
-TextLies n (Refuses number place) = Unit {0}
 
 abbrev pub ReadLies : List ℕ → ℕ → Read → Type 0
 ReadLies s at (AWhole stated next) = (at < next) × (next ≤ length s) × (TextLies (length s) stated)

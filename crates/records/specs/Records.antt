@@ -3,21 +3,18 @@ use Prim.Native.Nat.{ℕ, _+_, _*_, _-_}
 use mathlib.Core.Bool.{_||_}
 use mathlib.Core.List.{List}
 use lib.Dec.{eqb, leb, ltb}
-use lib.ListN.{length, getD, take, drop}
+use lib.ListN.{length, getD}
 use Rattle.writing.specs.Choose.{choose}
 use Rattle.words.specs.LittleEndian.{wordAt}
+use Rattle.statements.specs.Comparing.{between}
+use Rattle.statements.specs.declared.Stated.the-variants.{Accepts, Prints, Refuses}
 use Rattle.records.specs.declared.End.{End}
 use Rattle.records.specs.declared.End.the-variants.{At, Outside}
-use Rattle.records.specs.declared.Stated.the-variants.{Accepts, Prints, Refuses}
 use Rattle.records.specs.declared.Read.{Read}
 use Rattle.records.specs.declared.Read.the-variants.{Whole as AWhole, Broken as ABroken}
 use Rattle.records.specs.declared.Record.{Record}
 use Rattle.records.specs.declared.Found.{Found}
 use Rattle.records.specs.declared.Found.the-variants.{Whole, Broken}
-
--- The part of a list from one offset up to another.
-abbrev pub between : ℕ → ℕ → List ℕ → List ℕ
-between from to s = take (to - from) (drop from s)
 
 -- The end of a part whose length stands before it in two bytes.
 unfoldable pub partEnd : List ℕ → ℕ → End

@@ -1,10 +1,10 @@
 // What stands behind an element's index: flags, width, precision and letter.
 // Ported from format_string.rs of datafusion-spark 55.2.0 (Apache-2.0; see NOTICE): take_conversion_specifier.
+use flags::Flags;
+use flags::FlagsTaken;
 use letters::ConversionType;
 use letters::Letter;
 use letters::TimeLetter;
-use flags::Flags;
-use flags::FlagsTaken;
 use params::NumericParam;
 use params::Taken;
 ghost use mathlib.Core.Path.{_≡_};

@@ -39,7 +39,7 @@ write-marks-spec =
     (λ c. search needs)
     (λ c κs. search needs)
     (λ c κs. simp (length-take, length-drop)
-        (omega (arith, marks-length (start₁ (c .before .before) .args .mark) (start₁ (c .before .before) .args .prefix))))
+    (omega (arith, marks-length (start₁ (c .before .before) .args .mark) (start₁ (c .before .before) .args .prefix))))
     (λ c. omega (arith, marks-length (start₂ c .args .mark) (start₂ c .args .prefix)))
     (λ c. search needs)
     returns)

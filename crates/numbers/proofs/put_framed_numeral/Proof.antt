@@ -4,10 +4,11 @@ use lib.ListN.{length}
 use native.Mathlib.Omega.{arith}
 use mathlib.Core.Path.{_≡_}
 use mathlib.Core.Bool.{true}
+use Rattle.params.specs.Params.{widthOf}
 use Rattle.layout.specs.Frame.{frameOf}
 use Rattle.layout.specs.Around.{FramePut}
 use Rattle.layout.proofs.Padded.{framed-room, framed-put, framed-not}
-use Rattle.numbers.specs.Numbers.{widthOf, fill}
+use Rattle.numbers.specs.Numbers.{fill}
 use Rattle.numbers.specs.Numerals.{digitsText}
 use borrow.Author.Needs.{needs}
 use Rattle.numbers.proofs.put_framed_numeral.Statement.{statement}

@@ -3,8 +3,7 @@ use mathlib.Core.Path.{_≡_, _∙_}
 use lib.ListN.{length}
 use Rattle.numerals.specs.Bases.{baseOf}
 use Rattle.numerals.specs.Digits.{numeral}
-use Rattle.numerals.proofs.Digits.{length-numeral}
-use Rattle.numbers.proofs.Numerals.{numeral-in}
+use Rattle.numerals.proofs.Digits.{length-numeral, numeral-in}
 use borrow.Author.Needs.{needs}
 use Rattle.numbers.proofs.write_numeral.Statement.{statement}
 use Rattle.numbers.proofs.write_numeral.Tie as tie
