@@ -100,7 +100,9 @@ class Log:
                 for line, cells in zip(lines, records):
                     self.print_records([line], [cells])
             return
+        self.printed += len(rows)
         for k, refused in self.output.print(rows):
+            self.printed -= 1
             self.refused[refused.number] += 1
             self.tell(lines[k], in_one_line(refused))
 
@@ -140,11 +142,11 @@ class Log:
             self.look_at = seconds + AGAIN
             size = os.fstat(self.file.fileno()).st_size
             part = f", {100 * self.file.buffer.tell() // size} %" if size else ""
-            self.progress.show(f"line: {self.output.printed:,} rows{part}")
+            self.progress.show(f"line: {self.printed:,} rows{part}")
 
     def summary(self):
         """How many rows were printed and how many not, in one line."""
-        parts = [f"{counted(self.output.printed, 'row')} printed"]
+        parts = [f"{counted(self.printed, 'row')} printed"]
         parts += [f"{counted(count, 'row')} refused with {number}" for number, count in sorted(self.refused.items())]
         parts += [f"{counted(self.unread, 'row')} not understood"] if self.unread else []
         return ", ".join(parts)

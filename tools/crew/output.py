@@ -18,7 +18,6 @@ class Output:
         self.library, self.form, self.column = library, form, column
         self.ends = bytearray(4 + ENDS_BYTES)  # the end before the first piece, 0, and the ends that the library writes
         self.ends_at = address_of(self.ends) + 4
-        self.printed = 0
         self.make_room(ROOM)
 
     def make_room(self, size):
@@ -27,25 +26,26 @@ class Output:
 
     def print(self, rows):
         """Prints rows, each with a line end. Gives, when it comes to them, the numbers of those that are refused, with what the library says."""
-        panel_print, form, form_length, ends_at, used = self.library.panel_print, self.form, len(self.form), self.ends_at, self.used
+        panel_print, form, form_length, ends_at = self.library.panel_print, self.form, len(self.form), self.ends_at
+        room, room_at, used, most = self.room, self.room_at, self.used, len(self.room) - 1
         for k, row in enumerate(rows):
-            if used > len(self.room) // 2:
+            answer = panel_print(form, form_length, row, len(row), room_at + used, most - used, ends_at, ENDS_BYTES)
+            if answer.number:
+                self.used = used
+                if answer.number == FULL:
+                    answer = self.print_long(row)
+                    room, room_at, used, most = self.room, self.room_at, self.used, len(self.room) - 1
+                if answer.number:
+                    yield k, Refused(answer)
+                    used = self.used
+                    continue
+            used += self.keep_column(used) if self.column else answer.length
+            room[used] = LINE_END
+            used += 1
+            if used > most:
                 self.used = used
                 self.write()
                 used = 0
-            answer = panel_print(form, form_length, row, len(row), self.room_at + used, len(self.room) - used - 1, ends_at, ENDS_BYTES)
-            if answer.number == FULL:
-                self.used = used
-                answer, used = self.print_long(row), 0
-            if answer.number:
-                self.used = used
-                yield k, Refused(answer)
-                used = self.used
-                continue
-            self.printed += 1
-            used += self.keep_column(used) if self.column else answer.length
-            self.room[used] = LINE_END
-            used += 1
         self.used = used
 
     def print_long(self, row):

@@ -26,14 +26,16 @@ BOOLEANS = {"true": 1, "false": 0, "null": None}
 
 
 def integers(kind, words):
-    """The integers that words stand for. Where each is how its number is printed, only the range needs a further look."""
+    """The integers that words stand for. Where there are only digits and `-`, int() takes what is a number here, and nothing else."""
     half = 1 << INTEGER_BITS[kind] - 1
-    try:
-        values = list(map(int, words))
-        if list(map(str, values)) == list(words) and -half <= min(values) and max(values) < half:
-            return values
-    except ValueError:
-        pass
+    letters = "".join(words)
+    if letters.isascii() and letters.replace("-", "").isdigit():
+        try:
+            values = list(map(int, words))
+            if -half <= min(values) and max(values) < half:
+                return values
+        except ValueError:  # a word that is no number, or one of very many digits
+            pass
     return [integer(kind, half, word) for word in words]
 
 
@@ -78,18 +80,21 @@ def float_bits(word):
     return struct.unpack("<q", struct.pack("<d", value))[0]
 
 
-def boolean(word):
-    """0 or 1; None for null."""
-    if word not in BOOLEANS:
-        raise BadInput(f"bool={word}: not true, false or null")
-    return BOOLEANS[word]
+def booleans(words):
+    """0 or 1 for each word; None for null."""
+    for word in words:
+        if word not in BOOLEANS:
+            raise BadInput(f"bool={word}: not true, false or null")
+    return [BOOLEANS[word] for word in words]
 
 
 def parse(kind, words):
     """The parser of a kind, by its name."""
     if kind in INTEGER_BITS:
         return integers(kind, words)
-    return list(map({"f64": float_bits, "bool": boolean, "text": bytes_of}[kind], words))
+    if kind == "bool":
+        return booleans(words)
+    return [float_bits(word) for word in words] if kind == "f64" else [bytes_of(word) for word in words]
 
 
 class Rows:
