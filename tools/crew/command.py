@@ -131,7 +131,7 @@ def run(words):
     elif rest:
         form = bytes_of(rest.pop(0))
     else:
-        raise BadInput("the format is missing; line --help says how it is written")
+        raise BadInput("the format is missing; " + ("--csv takes a file, - for standard input" if "--csv" in options else "line --help says more"))
     check_options(options, rest)
     column = column_of(options)
     row = pack_row(rest)

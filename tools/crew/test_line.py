@@ -4,6 +4,7 @@
 import os
 import random
 import re
+import shutil
 import subprocess
 import sys
 import tempfile
@@ -84,9 +85,59 @@ class OneLine(Case):
         self.assertEqual((done.returncode, done.stdout, done.stderr), (0, b" ", b""))
 
 
+class Building(unittest.TestCase):
+    """The command in a folder where the library is not built, with a stand-in for `rt`."""
+
+    def run_new(self, folder, rt):
+        for name in ("crew", "pack"):
+            shutil.copytree(os.path.join(TOOLS, name), os.path.join(folder, "tools", name))
+        shutil.copy(os.path.join(TOOLS, "line"), os.path.join(folder, "tools"))
+        shutil.copy(os.path.join(ROOT, "crates.txt"), folder)
+        for name in ("crates/words/src", "panel", "bin"):
+            os.makedirs(os.path.join(folder, name))
+        self.script(folder, "panel/shared.sh", f"mkdir -p target/panel; cp {ROOT}/target/panel/libpanel.so target/panel/")
+        if rt:
+            self.script(folder, "bin/rt", rt)
+        return self.run_again(folder)
+
+    @staticmethod
+    def script(folder, name, text):
+        with open(os.path.join(folder, name), "w", encoding="utf-8") as file:
+            file.write(f"#!/bin/sh\n{text}\n")
+        os.chmod(os.path.join(folder, name), 0o755)
+
+    @staticmethod
+    def run_again(folder):
+        done = subprocess.run([os.path.join(folder, "tools", "line"), "%d", "int8=7"], capture_output=True, check=False,
+                              env={"PATH": os.path.join(folder, "bin") + ":/usr/bin:/bin"})
+        return done.returncode, done.stdout, done.stderr.decode()
+
+    def test_built_once(self):
+        with tempfile.TemporaryDirectory() as folder:
+            status, out, said = self.run_new(folder, "echo 'rt: words proved (3 s)'")
+            self.assertEqual((status, out), (0, b"7\n"))
+            self.assertEqual([line[:41] for line in said.splitlines()],
+                             ["line: the library is not built yet: provi", "line: proved 1 of 2, words; 0 s", "line: the library is built"])
+            self.assertEqual(self.run_again(folder), (0, b"7\n", ""))
+            with open(os.path.join(folder, "crates/words/src/lib.rt"), "w", encoding="utf-8"):
+                pass
+            self.assertIn("line: the library is built", self.run_again(folder)[2])
+
+    def test_not_to_be_built(self):
+        with tempfile.TemporaryDirectory() as folder:
+            status, out, said = self.run_new(folder, "echo words: not proved; exit 1")
+            self.assertEqual((status, out), (2, b""))
+            self.assertTrue(said.endswith("line: the library could not be built; `rt staticlib panel` said\nwords: not proved\n"), said)
+        with tempfile.TemporaryDirectory() as folder:
+            status, out, said = self.run_new(folder, "")
+            self.assertEqual((status, out), (2, b""))
+            self.assertTrue(said.endswith("line: the library is not built, and `rt` is not on this machine to build it\n"), said)
+
+
 class BadInputs(Case):
     def test_words(self):
         self.cannot("the format is missing")
+        self.cannot("the format is missing; --csv takes a file, - for standard input", "--csv", "%d")
         self.cannot("no such option", "--piece", "%d")
         self.cannot("a word must follow", "%d", "--check")
         self.cannot("int7: no such kind", "%d", "int7=1")

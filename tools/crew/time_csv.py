@@ -1,5 +1,6 @@
 #!/usr/bin/env python3
-"""Times `line --csv` on a log of 100,000 rows beside the C function on the same rows. Run: python3 tools/crew/time_csv.py, with the library built."""
+"""Times `line --csv` on a log of 100,000 rows beside the C function on the same rows. Run: python3 tools/crew/time_csv.py [FORMAT],
+with the library built. The format is the sheet line if not given."""
 
 import os
 import random
@@ -18,7 +19,7 @@ from values import Rows  # noqa: E402
 COUNT = 100_000
 RUNS = 5
 COLUMNS = "gate:int8,position:int32,delay:int32,open:bool,name:text"
-FORMAT = "gate %d pos %08x delay %,d open %b name %-12s"
+FORMAT = sys.argv[1] if len(sys.argv) > 1 else "gate %d pos %08x delay %,d open %b name %-12s"
 NAMES = ["north", "south", "east weir", "lock 4", "écluse"]
 
 
@@ -55,7 +56,8 @@ def main():
     records = [cells(rng) for _ in range(COUNT)]
     with tempfile.TemporaryDirectory() as folder:
         in_c, in_line = c_time(folder, records), line_time(folder, records)
-    print(f"{COUNT:,} rows: C function {in_c:.1f} ms, line --csv {in_line:.0f} ms, {in_line / in_c:.1f} times as long; {COUNT / in_line * 1e3:,.0f} rows a second")
+    print(f"{COUNT:,} rows: C function {in_c:.1f} ms, line --csv {in_line:.0f} ms, {in_line / in_c:.1f} times as long; "
+          f"{COUNT / in_line * 1e3:,.0f} rows a second")
 
 
 if __name__ == "__main__":

@@ -1,4 +1,5 @@
-/* The time that panel_print takes for rows: stdin has each row behind its length in 4 bytes; the argument is the format. Milliseconds of the best of ten runs on stdout. */
+/* The time that panel_print takes for rows: standard input has each row behind its length in 4 bytes; the argument is the format.
+   Writes the milliseconds of the best of ten runs. */
 #include <stdio.h>
 #include <stdlib.h>
 #include <string.h>
