@@ -161,7 +161,16 @@ def main():
             sys.stderr.write(USAGE)
         return 2
     except BrokenPipeError:
-        os.dup2(os.open(os.devnull, os.O_WRONLY), sys.stdout.fileno())
+        drop_output()
         return 0
+    except OSError as error:
+        drop_output()
+        tell("line", f"the output cannot be written: {error.strerror}")
+        return 2
     except KeyboardInterrupt:
         return 130
+
+
+def drop_output():
+    """Lets what is still to be written go nowhere, so that Python's end does not try again."""
+    os.dup2(os.open(os.devnull, os.O_WRONLY), sys.stdout.fileno())

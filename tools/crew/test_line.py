@@ -85,6 +85,12 @@ class OneLine(Case):
         self.assertEqual((done.returncode, done.stdout, done.stderr), (0, b" ", b""))
 
 
+    def test_an_output_that_cannot_be_written_is_told(self):
+        for words in ("'%d' int8=7", "--csv tools/crew/example.csv '%d'"):
+            done = subprocess.run(f"{TOOLS}/line {words} > /dev/full", shell=True, capture_output=True, check=False, cwd=ROOT)
+            self.assertEqual((done.returncode, done.stderr.splitlines()[-1:]), (2, [b"line: the output cannot be written: No space left on device"]))
+
+
 class Building(unittest.TestCase):
     """The command in a folder where the library is not built, with a stand-in for `rt`."""
 

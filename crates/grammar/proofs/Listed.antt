@@ -50,6 +50,20 @@ pub lists-length : {ps : List Placed} {parts : List Part} → Lists ps parts →
 lists-length Q.nothing = refl
 lists-length (Q.one {ps} {before} {x} w is from to) = omega (arith, length-append ps (x ∷ []), lists-length w)
 
+-- The piece that is listed for a part: as many pieces stand before it as parts.
+pub record ListedAs (x : Placed) (before : List Part) (p : Part) : Type 0 where
+  pub is : PieceIs (length (bytesBefore before)) (x .piece) p
+  pub to : x .to ≡ length (bytesBefore (p ∷ before))
+
+pub part-listed : (behind : List Part) {before : List Part} {p : Part} {ps : List Placed} (d : Placed) → Lists ps (behind ++ (p ∷ before))
+    → ListedAs (getD ps (length before) d) before p
+part-listed [] {before} {p} d (Q.one {ps} {x = x} w is from to) =
+    subst (λ (y : Placed). ListedAs y before p) (sym (getD-at ps x [] d (length before) (omega (arith, lists-length w))))
+    (record { is = is; to = to })
+part-listed (q ∷ behind) {before} {p} d (Q.one {ps} {x = x} w is from to) =
+    let n : length before < length ps = omega (arith, lists-length w, length-append behind (p ∷ before)) in
+    subst (λ (y : Placed). ListedAs y before p) (sym (List·getD-append ps (x ∷ []) d (length before) n)) (part-listed behind d w)
+
 piece-argument : {at : ℕ} {x : Piece} {p : Part} → PieceIs at x p → argumentOf x ≡ argumentIn p
 piece-argument (Q.is-text e f) = refl
 piece-argument (Q.is-percent e f) = refl

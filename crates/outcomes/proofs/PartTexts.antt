@@ -6,7 +6,7 @@ use mathlib.Core.List.{List, [], _∷_, _++_, append-assoc, append-nil}
 use Prim.Native.Nat.{ℕ, _+_, _-_, _<_}
 use native.Mathlib.Omega.{arith}
 use Prim.Native.Char.{code}
-use lib.ListN.{length, getD, take, drop}
+use lib.ListN.{length, getD, take, drop, length-append}
 use lib.Seq.{take-append-seam, drop-append-seam, drop-drop}
 use Rattle.writing.specs.Text.{ascii, has}
 use Rattle.params.specs.declared.NumericParam.{NumericParam}
@@ -15,12 +15,13 @@ use Rattle.letters.specs.declared.ConversionType.the-variants as C
 use Rattle.specifiers.specs.declared.Element.{Element}
 use Rattle.parsing.specs.Listed.{Placed, placed}
 use Rattle.parsing.specs.declared.Piece.{Piece}
+use Rattle.parsing.specs.declared.Piece.the-variants.{Fixed}
 use Rattle.grammar.specs.Runs.{begins}
 use Rattle.grammar.specs.Parts.{Part, text, percent, newline, element, partBytes, bytesBefore}
 use Rattle.grammar.specs.Pieces.{lettersOf, PieceIs, Lists}
 use Rattle.grammar.specs.Pieces as Q
 use Rattle.grammar.specs.Readings.{Whole}
-use Rattle.grammar.proofs.Listed.{IsPart}
+use Rattle.grammar.proofs.Listed.{lists-length, part-listed}
 use Rattle.grammar.proofs.Readings.{read-whole, reads-bytes}
 use Rattle.rows.specs.Row.{namedText, kindByteOf, valueOf, kindsOf, isRow}
 use Rattle.elements.specs.Texts.{elementText, textOf}
@@ -79,7 +80,7 @@ module _ (s row : List ℕ) where
   unfolding texts
   part-texts kept w = lists-texts [] (read-whole s (kindsOf row) (row-kinds row kept) w .lists) (reads-bytes (w .reads))
 
--- What demand 3 says of a piece, it says of a part that the piece is (`IsPart`). That this part is the i-th that stands in the format is not said here.
+-- What demand 3 says of a piece, it says of the part that the piece is.
 no-time : (c : ConversionType) (l : List ℕ) → begins (has (lettersOf c)) l ≡ true → begins (has (ascii "tT")) l ≡ false → isTime c ≡ false
 no-time C.Boolean l h n = refl
 no-time C.HexHash l h n = refl
@@ -100,6 +101,13 @@ part-denotes s row to bytes (Q.is-element {e} {w} is) d = λ n.
     (subst (λ (a : ℕ). ReadsBack (getD s (to - 1) 0) (kindByteOf row a) (valueOf row a) (e .precision) bytes) (is .argument)
     (d (no-time (e .conversion) (w .letter) (is .conversion) n)))
 
-pub columns-denote : (s row : List ℕ) {n k : ℕ} {out ends : List ℕ} → Demand3 s row n k out ends → {parts : List Part} (i : ℕ) → i < k
-    → (x : IsPart (pieceOf s row i) parts) → PartDenotes s row (pieceOf s row i .to) (x .part) (cutOut out ends i)
-columns-denote s row {out = out} {ends = ends} d i h x = part-denotes s row (pieceOf s row i .to) (cutOut out ends i) (x .is) (d .columns i h)
+-- Demand 3 of a part p of a format, wherever it stands: as many ends stand before its own as parts, and what they cut out denotes its value.
+pub columns-denote : (s row : List ℕ) {n k : ℕ} {out ends : List ℕ} → isRow row ≡ true → Demand3 s row n k out ends
+    → (behind before : List Part) (p : Part) → Whole s (kindsOf row) (behind ++ (p ∷ before))
+    → PartDenotes s row (length (bytesBefore (p ∷ before))) p (cutOut out ends (length before))
+columns-denote s row {k = k} {out = out} {ends = ends} kept d behind before p w =
+    let l = read-whole s (kindsOf row) (row-kinds row kept) w .lists in
+    let x = part-listed behind (record { piece = Fixed 0 0; from = 0; to = 0 }) l in
+    let h : length before < k = omega (arith, d .count, lists-length l, length-append behind (p ∷ before)) in
+    subst (λ (to : ℕ). PartDenotes s row to p (cutOut out ends (length before))) (x .to)
+    (part-denotes s row (pieceOf s row (length before) .to) (cutOut out ends (length before)) (x .is) (d .columns (length before) h))
