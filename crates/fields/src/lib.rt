@@ -72,7 +72,8 @@ fn write_signed_text(out: &mut [u8], negative: bool, magnitude: u64) -> usize
 
 // %s of an integer
 pub fn format_signed_text(out: &mut [u8], e: Element, value: u64) -> u64
-    ensures { λ r. ⌜ Put (now (out .entry)) (formatString e (signedText (isNegative (intOf 64 value)) (natAbs (intOf 64 value)))) r (now (out .exit)) × (r < 2 ^ 42) ⌝ }
+    ensures { λ r.
+        ⌜ Put (now (out .entry)) (formatString e (signedText (isNegative (intOf 64 value)) (natAbs (intOf 64 value)))) r (now (out .exit)) × (r < 2 ^ 42) ⌝ }
 {
     let mut buffer = [0u8; 21];
     let n = write_signed_text(
