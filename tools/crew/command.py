@@ -106,18 +106,29 @@ def print_line(library, form, row, column):
     return text + b"\n"
 
 
-def answer(library, options, form, row):
-    """What is printed for one format and row, or kinds."""
+def answer(options, form, words, column):
+    """What is printed for one format and values, or kinds."""
     if "--check" in options:
-        checked = library.check(form, kinds_of(options["--check"]))
+        kinds = kinds_of(options["--check"])
+        checked = Library().check(form, kinds)
         return f"accepted: {counted(checked.pieces, 'piece')}, largest argument {checked.largest}\n".encode()
+    row = pack_row(words)
+    library = Library()
     if "--measure" in options:
         measured = library.measure(form, row)
         return f"{counted(measured.length, 'byte')}, {counted(measured.pieces, 'piece')}\n".encode()
     if "--pieces" in options:
         from pieces import table_of_pieces  # only here: it brings much along
         return "".join(line + "\n" for line in table_of_pieces(library, form, row)).encode("utf-8", "surrogateescape")
-    return print_line(library, form, row, column_of(options))
+    return print_line(library, form, row, column)
+
+
+def print_log(form, name, column):
+    """Prints a log; the exit status."""
+    from log import Log
+    log = Log(name)
+    log.print(Library(), form, column)
+    return log.status()
 
 
 def run(words):
@@ -125,6 +136,7 @@ def run(words):
     options, rest = split_words(words)
     if "--help" in options:
         sys.stdout.write(HELP)
+        sys.stdout.flush()
         return 0
     if "--format-file" in options:
         form = read_format(options["--format-file"])
@@ -134,15 +146,10 @@ def run(words):
         raise BadInput("the format is missing; " + ("--csv takes a file, - for standard input" if "--csv" in options else "line --help says more"))
     check_options(options, rest)
     column = column_of(options)
-    row = pack_row(rest)
-    library = Library()
     try:
         if "--csv" in options:
-            from log import Log
-            log = Log(library, form, options["--csv"], column)
-            log.print()
-            return log.status()
-        sys.stdout.buffer.write(answer(library, options, form, row))
+            return print_log(form, options["--csv"], column)
+        sys.stdout.buffer.write(answer(options, form, rest, column))
         sys.stdout.flush()
         return 0
     except Refused as refused:
@@ -154,6 +161,8 @@ def run(words):
 def main():
     words = command_words()
     try:
+        if sys.stdout is None:
+            raise BadInput("standard output is closed")
         return run(words)
     except BadInput as error:
         tell("line", error)

@@ -15,6 +15,7 @@ SHARED = os.path.join(ROOT, "target", "panel", "libpanel.so")
 
 MOST_OUTPUT = 1 << 26  # what is lent at most for a line; a longer text is refused by the library with 17
 ENDS_BYTES = 4 * 512  # no format has more pieces
+FULL = 17  # the refusal of a text that does not fit
 
 
 class Checked(ctypes.Structure):
@@ -44,11 +45,11 @@ def newest_source():
     return newest
 
 
-def is_built():
-    try:
-        return os.stat(SHARED).st_mtime >= newest_source()
-    except FileNotFoundError:
-        return False
+def why_not_built():
+    """Why the library has to be built; nothing where it is built and no source is newer."""
+    if not os.path.exists(SHARED):
+        return "is not built yet"
+    return "" if os.stat(SHARED).st_mtime >= newest_source() else "is older than its source"
 
 
 def crates_to_prove():
@@ -71,9 +72,9 @@ def run_step(words, on_line):
         raise BadInput(f"the library could not be built; `{' '.join(words)}` said\n" + "".join(said[-12:]).rstrip())
 
 
-def build():
+def build(why):
     """Proves and builds the library, and says how far it is."""
-    tell("line", "the library is not built yet: proving and building it, which takes some minutes the first time")
+    tell("line", f"the library {why}: proving and building it, which takes some minutes")
     total = crates_to_prove()
     proved = set()
     progress = Progress()
@@ -95,9 +96,13 @@ class Library:
     """The three functions."""
 
     def __init__(self):
-        if not is_built():
-            build()
-        shared = ctypes.CDLL(SHARED)
+        why = why_not_built()
+        if why:
+            build(why)
+        try:
+            shared = ctypes.CDLL(SHARED)
+        except OSError as error:
+            raise BadInput(f"the library cannot be loaded: {error}; remove it, and it is built again") from error
         lent, length, room = ctypes.c_char_p, ctypes.c_size_t, ctypes.c_void_p
         self.panel_check = self.function(shared.panel_check, Checked, [lent, length] * 2)
         self.panel_measure = self.function(shared.panel_measure, Printed, [lent, length] * 2)
@@ -122,10 +127,10 @@ class Library:
             raise Refused(answer)
         return answer
 
-    def print(self, form, row):
-        """The text of a row under a format, and the ends of its pieces. As much is lent as measuring says, up to MOST_OUTPUT."""
+    def print(self, form, row, most=MOST_OUTPUT):
+        """The text of a row under a format, and the ends of its pieces. As much is lent as measuring says, up to `most`."""
         measured = self.measure(form, row)
-        room = min(measured.length, MOST_OUTPUT)
+        room = min(measured.length, most)
         out, ends = ctypes.create_string_buffer(room), (ctypes.c_uint8 * (4 * measured.pieces))()
         answer = self.panel_print(form, len(form), row, len(row), ctypes.addressof(out), room, ctypes.addressof(ends), len(ends))
         if answer.number:

@@ -4,10 +4,9 @@ import ctypes
 import struct
 import sys
 
-from library import ENDS_BYTES, MOST_OUTPUT, Refused
+from library import ENDS_BYTES, FULL, MOST_OUTPUT, Refused
 
 ROOM = 1 << 20
-FULL = 17  # the refusal of a text that does not fit
 LINE_END = 10
 
 

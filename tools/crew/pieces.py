@@ -1,7 +1,9 @@
 """The table of a line's pieces. Where each piece stands in the format, and which value it takes, is asked of the library: it is not read a second time here."""
 
+import re
 import struct
 
+from library import MOST_OUTPUT
 from readback import Reading, read_back
 from shown import shortened, table, units
 from values import KIND, NULL_MARK
@@ -9,7 +11,11 @@ from values import KIND, NULL_MARK
 INTEGERS = {KIND["int8"]: 8, KIND["int16"]: 16, KIND["int32"]: 32, KIND["int64"]: 64}
 NAME = {number: kind for kind, number in KIND.items()}
 READ = set("dxXoaA")
+PRECISION = re.compile(rb"\.0*([0-9]+)")
+ALL_DIGITS = 13  # hexadecimal digits of a float's fraction
+DIFFERENT = "DIFFERENT"
 SIGN = 1 << 63
+MOST_LONGER = 1024  # bytes by which a line can be longer with another value: one or two a piece
 
 
 class Value:
@@ -65,7 +71,7 @@ def value_of_each(library, form, row, texts):
     """The number that each piece prints: the one with which its text changes; None where there is none."""
     found = [None] * len(texts)
     for value in numbers_of(row):
-        others = cut(*library.print(form, value.other_row(row)))
+        others = cut(*library.print(form, value.other_row(row), MOST_OUTPUT + MOST_LONGER))
         for k, (text, other) in enumerate(zip(texts, others)):
             if text != other:
                 found[k] = value
@@ -77,6 +83,12 @@ def letter_of(part):
     return "" if part[-2:-1] in (b"t", b"T") else chr(part[-1])
 
 
+def is_cut(part):
+    """Whether an element of a float has a precision of so few digits that its text may be rounded."""
+    found = PRECISION.search(part)
+    return bool(found) and int(found[1][:4]) < ALL_DIGITS
+
+
 def compared(part, text, value):
     """What a piece reads back as, the row's value, and how they agree; nothing where the rule promises nothing."""
     letter = letter_of(part)
@@ -84,11 +96,13 @@ def compared(part, text, value):
         return "", "", ""
     reading, number = read_back(letter, text), value.number()
     shown = f"{NAME[value.kind]} {number}"
-    if reading == number:
+    if reading is None:
+        return "nothing", shown, DIFFERENT
+    if reading.is_same(number):
         return str(reading), shown, "same"
     if letter in "xXo" and number.negative and reading.size + number.size == 1 << INTEGERS[value.kind]:
         return str(reading), shown, f"same bits: {reading} - 2^{INTEGERS[value.kind]}"
-    return str(reading), shown, "rounded" if letter in "aA" else "DIFFERENT"
+    return str(reading), shown, "rounded" if letter in "aA" and is_cut(part) and reading.is_nearest(number) else DIFFERENT
 
 
 def table_of_pieces(library, form, row):

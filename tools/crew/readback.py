@@ -4,19 +4,24 @@ import re
 from fractions import Fraction
 
 DROPPED = b" ,+"
-DECIMAL = re.compile(rb"(-?)([0-9]+)|\(([0-9]+)\)")
+DECIMAL = re.compile(rb"(-?)0*([0-9]+)|\(0*([0-9]+)\)")
 BASE = {"x": (16, re.compile(rb"(?:0x)?([0-9a-f]+)")), "o": (8, re.compile(rb"(?:0x)?([0-7]+)"))}
-FLOAT = re.compile(rb"(-?)0x([0-9a-f]+)\.([0-9a-f]+)p(-?[0-9]+)")
+FLOAT = re.compile(rb"(-?)0x0*([0-9a-f]+)\.([0-9a-f]+)p(-?[0-9]+)")
 
 
 class Reading:
-    """What a column denotes: a sign, which zero has too, and a size."""
+    """What a column denotes: a sign, which zero has too, and a size. Of a float also the power of two that its last digit counts, and whether that digit is even."""
 
-    def __init__(self, negative, size):
-        self.negative, self.size = negative, Fraction(size)
+    def __init__(self, negative, size, last=0, even=True):
+        self.negative, self.size, self.last, self.even = negative, Fraction(size), last, even
 
-    def __eq__(self, other):
+    def is_same(self, other):
         return (self.negative, self.size) == (other.negative, other.size)
+
+    def is_nearest(self, number):
+        """Whether no other number of this form lies nearer to a number: half of what the last digit counts, an even digit where that is met."""
+        away, half = abs(self.size - number.size), Fraction(2) ** (self.last - 1)
+        return self.negative == number.negative and (away < half or away == half and self.even)
 
     def __str__(self):
         sign = "-" if self.negative else ""
@@ -38,5 +43,7 @@ def read_back(letter, piece):
         return Reading(False, int(found[1], BASE[letter][0]))
     if letter == "a" and (found := FLOAT.fullmatch(kept)):
         sign, whole, behind, power = found.groups()
-        return Reading(bool(sign), int(whole + behind, 16) * Fraction(2) ** (int(power) - 4 * len(behind)))
+        digits = behind.rstrip(b"0")  # zeros at the end count nothing
+        size = int(whole + digits, 16) * Fraction(2) ** (int(power) - 4 * len(digits))
+        return Reading(bool(sign), size, int(power) - 4 * len(behind), int(behind[-1:], 16) % 2 == 0)
     return None

@@ -71,6 +71,12 @@ class OneLine(Case):
             self.prints(b"--\x007\n\n", "--format-file", name, "int8=7")
             self.cannot("No such file", "--format-file", name + "-")
 
+    def test_closed_streams(self):
+        for words, message in (("'%d' int8=7 >&-", "standard output is closed"), ("--csv - '%d' <&-", "standard input is closed")):
+            done = subprocess.run(f"{TOOLS}/line {words}", shell=True, capture_output=True, check=False)
+            self.assertEqual((done.returncode, done.stderr.decode()), (2, f"line: {message}\n"))
+        self.assertEqual(subprocess.run(f"{TOOLS}/line '%q' int8=7 2>&-", shell=True, capture_output=True, check=False).returncode, 1)
+
     def test_format_that_begins_with_hyphens(self):
         self.prints(b"--7\n", "--", "--%d", "int8=7")
         self.prints(b"-7\n", "-%d", "int8=7")
@@ -81,7 +87,7 @@ class OneLine(Case):
         self.assertIn(b"Examples:", out)
 
     def test_a_closed_pipe_is_no_error(self):
-        done = subprocess.run(f"{TOOLS}/line '%1000000d' int8=7 | head -c 1", shell=True, capture_output=True, check=False)
+        done = subprocess.run(["bash", "-c", f"{TOOLS}/line '%1000000d' int8=7 | head -c 1; exit ${{PIPESTATUS[0]}}"], capture_output=True, check=False)
         self.assertEqual((done.returncode, done.stdout, done.stderr), (0, b" ", b""))
 
 
@@ -127,7 +133,10 @@ class Building(unittest.TestCase):
             self.assertEqual(self.run_again(folder), (0, b"7\n", ""))
             with open(os.path.join(folder, "crates/words/src/lib.rt"), "w", encoding="utf-8"):
                 pass
-            self.assertIn("line: the library is built", self.run_again(folder)[2])
+            self.assertTrue(self.run_again(folder)[2].startswith("line: the library is older than its source: proving"))
+            with open(os.path.join(folder, "target/panel/libpanel.so"), "w", encoding="utf-8") as file:
+                file.write("no library")
+            self.assertIn("line: the library cannot be loaded", self.run_again(folder)[2])
 
     def test_not_to_be_built(self):
         with tempfile.TemporaryDirectory() as folder:
@@ -192,7 +201,7 @@ class Refusals(Case):
             self.assertEqual(lines[0], f"line: refused with {number}: {cause}")
             self.assertEqual(lines[-2:], [f"  cure: {cure}", ""])
             if number in WITHOUT_PLACE:
-                self.assertEqual(len(lines), 3)
+                self.assertEqual(len(lines), 4 if number == 17 else 3)
             else:
                 self.assertTrue(lines[2].endswith(f"^ byte {place}"), said)
                 self.assertEqual(lines[1][lines[2].index("^")], "%")
@@ -262,6 +271,31 @@ piece  format  from  to  text        reads back as  value
         ends = pieces.places_in_format(library, form, kinds)
         self.assertEqual(pieces.cut(form, ends), ["é".encode(), b"%d", b"%%", b"%n", b"%5$-5.3s", b"xyz", b"%<S", b"% d"])
 
+    def test_agreement_is_judged(self):
+        def said(part, text, word):
+            return pieces.compared(part, text, pieces.numbers_of(pack_row([word]))[0])[2]
+        self.assertEqual(said(b"%d", b"8", "int8=7"), "DIFFERENT")
+        self.assertEqual(said(b"%d", b"7x", "int8=7"), "DIFFERENT")
+        self.assertEqual(said(b"%x", b"fe", "int8=-1"), "DIFFERENT")
+        self.assertEqual(said(b"%a", b"0x1.0p7", "f64=1.5"), "DIFFERENT")
+        self.assertEqual(said(b"%a", b"0x1.8p0", "f64=1.5"), "same")
+        self.assertEqual(said(b"%a", b"0x1.9p0", "f64=0x1.91p0"), "DIFFERENT")
+        self.assertEqual(said(b"%.1a", b"0x1.9p0", "f64=0x1.91p0"), "rounded")
+        self.assertEqual(said(b"%.1a", b"0x1.ap0", "f64=0x1.91p0"), "DIFFERENT")
+        self.assertEqual(said(b"%.1a", b"0x1.8p0", "f64=0x1.88p0"), "rounded")
+        self.assertEqual(said(b"%.1a", b"0x1.9p0", "f64=0x1.88p0"), "DIFFERENT")
+        self.assertEqual(said(b"%.13a", b"0x1.8000000000000p0", "f64=-1.5"), "DIFFERENT")
+
+    def test_many_digits(self):
+        for form, word in (("%05000d", "int8=-7"), ("%.5000a", "f64=3.5"), ("%05000a", "f64=3.5"), ("%05000x", "int8=7")):
+            status, out, said = run("--pieces", form, word)
+            self.assertEqual((status, said, out.decode().split()[-1]), (0, "", "same"))
+
+    def test_longest_line(self):
+        words = ["%67108862d%d", "int8=7", "int8=-9"]
+        self.assertEqual(run("--measure", *words)[1], b"67,108,864 bytes, 2 pieces\n")
+        self.assertEqual(run("--pieces", *words)[0], 0)
+
     def test_random_numbers_agree(self):
         library = Library()
         rng = random.Random(1)
@@ -326,7 +360,7 @@ class Logs(Case):
         self.assertEqual(said, """\
 line: standard input:3: refused with 16: `%c` of a number that is no character, at byte 0 of the format
 line: standard input:4: a: int32=x: not a whole number, decimal or 0x..
-line: standard input:5: 1 values for 2 columns
+line: standard input:5: 1 value for 2 columns
 line: standard input:6: b: f64=: not a decimal or hexadecimal float, nan, inf, -inf or bits:0x..
 line: standard input:7: ',' expected after '"'
 line: 2 rows printed, 1 row refused with 16, 4 rows not understood
@@ -343,7 +377,28 @@ line: 2 rows printed, 1 row refused with 16, 4 rows not understood
         self.assertEqual((status, out), (1, b""))
         self.assertTrue(said.startswith("line: refused with 10:"), said)
 
+    def test_a_quote_that_is_not_closed_takes_its_line_alone(self):
+        status, out, said = self.csv('a:int8,b:text\n1,x\n2,"y\n3,z\n4,"w\nw"\n5,v\n', "%d %s")
+        self.assertEqual((status, out), (2, b"1 x\n3 z\n4 w\nw\n5 v\n"))
+        self.assertTrue(said.startswith("line: standard input:3: "), said)
+        self.assertTrue(said.endswith("line: 4 rows printed, 1 row not understood\n"), said)
+        rows = "".join(f"{k % 100},x\n" for k in range(20000))
+        status, out, said = self.csv('a:int8,b:text\n2,"6 inch pipe\n' + rows + '3,"w\n', "%d")
+        self.assertEqual((status, out), (2, "".join(f"{k % 100}\n" for k in range(20000)).encode()))
+        self.assertIn("standard input:20003: ", said)
+
+    def test_text_of_many_lines(self):
+        text = "".join(f"line {k}\n" for k in range(3000))
+        self.assertEqual(self.csv(f'a:int8,b:text\n1,"{text}"\n2,b\nx,c\n', "%d %s"), (
+            2, f"1 {text}\n2 b\n".encode(),
+            "line: standard input:3004: a: int8=x: not a whole number, decimal or 0x..\nline: 2 rows printed, 1 row not understood\n"))
+
+    def test_the_column_at_fault_is_named(self):
+        self.assertIn("standard input:2: b: int32=x:", self.csv("a:int8,b:int32\n,x\n", "%d")[2])
+
     def test_first_line(self):
+        self.cannot("standard input:1: ',' expected", "--csv", "-", "%d", given=b'"gate":int8\n7\n')
+        self.cannot("standard input:1: field larger", "--csv", "-", "%d", given=b"a" * 200000 + b":int8\n7\n")
         self.cannot("gate: the first line names columns as NAME:KIND", "--csv", "-", "%d", given=b"gate\n7\n")
         self.cannot("int7: no such kind", "--csv", "-", "%d", given=b"gate:int7\n7\n")
         self.cannot("no columns", "--csv", "-", "%d", given=b"")

@@ -28,5 +28,6 @@ def read_format(name):
 
 
 def tell(program, message):
-    """A line on standard error; what no terminal can show is escaped."""
-    sys.stderr.write(f"{program}: {message}\n".encode("utf-8", "backslashreplace").decode())
+    """A line on standard error, if it is open; what no terminal can show is escaped."""
+    if sys.stderr:
+        sys.stderr.write(f"{program}: {message}\n".encode("utf-8", "backslashreplace").decode())

@@ -1,5 +1,5 @@
--- The texts of a format's pieces are those of its parts: text as it stands, `%` for `%%`, byte 10 for `%n`, and of an element the value it takes. Assumes
--- nothing.
+-- The texts of a format's pieces are those of its parts: text as it stands, `%` for `%%`, byte 10 for `%n`, and of an element the value it takes. What
+-- demand 3 says of pieces, it says of parts. Of rows that keep their layout.
 use mathlib.Core.Path.{_≡_, refl, sym, ap, subst, _∙_}
 use mathlib.Core.Bool.{true, false}
 use mathlib.Core.List.{List, [], _∷_, _++_, append-assoc, append-nil}
@@ -101,7 +101,8 @@ part-denotes s row to bytes (Q.is-element {e} {w} is) d = λ n.
     (subst (λ (a : ℕ). ReadsBack (getD s (to - 1) 0) (kindByteOf row a) (valueOf row a) (e .precision) bytes) (is .argument)
     (d (no-time (e .conversion) (w .letter) (is .conversion) n)))
 
--- Demand 3 of a part p of a format, wherever it stands: as many ends stand before its own as parts, and what they cut out denotes its value.
+-- Demand 3 of a part p of a format, wherever it stands: as many ends stand before its own as parts, and of what they cut out holds what `PartDenotes`
+-- says: nothing of text and of t and T, and of an element what `ReadsBack` says for its letter.
 pub columns-denote : (s row : List ℕ) {n k : ℕ} {out ends : List ℕ} → isRow row ≡ true → Demand3 s row n k out ends
     → (behind before : List Part) (p : Part) → Whole s (kindsOf row) (behind ++ (p ∷ before))
     → PartDenotes s row (length (bytesBefore (p ∷ before))) p (cutOut out ends (length before))

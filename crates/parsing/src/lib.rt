@@ -1,4 +1,4 @@
-// Reading a format: the next piece from a cursor on. A format checked against kinds is a pass over its pieces, which stands in `printing`.
+// Reading a format: the next piece from a cursor on. A format checked against kinds is a pass over its pieces (`passes`, `printing::check`).
 // Ported from format_string.rs of datafusion-spark 55.2.0 (Apache-2.0; see NOTICE): Formatter::parse. The original keeps a
 // vector of elements; here a cursor reads the format again from an offset.
 use arguments::Index;
