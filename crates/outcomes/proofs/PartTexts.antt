@@ -22,14 +22,16 @@ use Rattle.grammar.specs.Pieces.{lettersOf, PieceIs, Lists}
 use Rattle.grammar.specs.Pieces as Q
 use Rattle.grammar.specs.Readings.{Whole}
 use Rattle.grammar.proofs.Listed.{lists-length, part-listed}
-use Rattle.grammar.proofs.Readings.{read-whole, reads-bytes}
+use Rattle.grammar.proofs.Readings.{read-whole, reads-bytes, parts-of}
 use Rattle.rows.specs.Row.{namedText, kindByteOf, valueOf, kindsOf, isRow}
 use Rattle.elements.specs.Texts.{elementText, textOf}
 use Rattle.columns.specs.Columns.{ReadsBack}
 use Rattle.pieces.specs.PieceTexts.{shownPiece, pieceText}
 use Rattle.outcomes.specs.Demand.{cutOut, pieceOf, isTime, DenotesValue, Demand3}
 use Rattle.outcomes.specs.PartTexts.{PartText, PartTexts, nothing, one, PartDenotes}
-use Rattle.outcomes.specs.Printed.{textsOf, texts}
+use Rattle.outcomes.specs.Printed.{textsOf, texts, printed}
+use Rattle.outcomes.specs.declared.Outcome.the-variants.{Accepted}
+use Rattle.outcomes.proofs.Accepted.{fitted}
 use Rattle.outcomes.proofs.Letters.{row-kinds}
 
 -- some bytes behind others
@@ -112,3 +114,21 @@ columns-denote s row {k = k} {out = out} {ends = ends} kept d behind before p w 
     let h : length before < k = omega (arith, d .count, lists-length l, length-append behind (p ∷ before)) in
     subst (λ (to : ℕ). PartDenotes s row to p (cutOut out ends (length before))) (x .to)
     (part-denotes s row (pieceOf s row (length before) .to) (cutOut out ends (length before)) (x .is) (d .columns (length before) h))
+
+-- Together, of a call that prints: the format is made of parts, and demand 3 holds of each of them.
+pub record PartsDenote (s row out ends : List ℕ) : Type 0 where
+  pub parts : List Part
+  pub whole : Whole s (kindsOf row) parts
+  pub denote : (behind before : List Part) (p : Part) → parts ≡ behind ++ (p ∷ before)
+      → PartDenotes s row (length (bytesBefore (p ∷ before))) p (cutOut out ends (length before))
+
+pub printed-columns : (s row : List ℕ) (room slots n k : ℕ) {out ends : List ℕ} → printed s row room slots ≡ Accepted n k → Demand3 s row n k out ends
+    → PartsDenote s row out ends
+printed-columns s row room slots n k e d =
+    let a = fitted s row room slots n k e .accepts in
+    let m = parts-of s (kindsOf row) (row-kinds row (a .kept)) (a .finished) in
+    record {
+      parts = m .parts;
+      whole = m .whole;
+      denote = λ behind before p q. columns-denote s row (a .kept) d behind before p (subst (Whole s (kindsOf row)) q (m .whole));
+    }
