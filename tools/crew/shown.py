@@ -4,6 +4,7 @@ import unicodedata
 
 NAMED = {"\n": "\\n", "\r": "\\r", "\t": "\\t"}
 HIDDEN = {"Cc", "Cf", "Cs", "Co", "Cn", "Zl", "Zp"}  # categories of characters that show nothing, or move what follows
+ENOUGH = 1024  # bytes in which there are more columns than a table shows
 ABOVE = {"Mn", "Me"}  # categories of characters that stand on the one before
 
 
@@ -53,12 +54,12 @@ def last(some, most):
 
 
 def shortened(data, most):
-    """Units of bytes, with `...` in the middle where there are more columns."""
-    some = units(data)
-    if columns(some) <= most:
-        return some
+    """Units of bytes, with `...` in the middle where there are more columns. Of very many bytes only those at both ends are looked at."""
     half = (most - 3) // 2
-    return first(some, half) + [("...", 3)] + last(some, half)
+    if len(data) > 2 * ENOUGH:
+        return first(units(data[:ENOUGH]), half) + [("...", 3)] + last(units(data[-ENOUGH:]), half)
+    some = units(data)
+    return some if columns(some) <= most else first(some, half) + [("...", 3)] + last(some, half)
 
 
 def mark(form, place):
