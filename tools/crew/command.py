@@ -1,9 +1,8 @@
 """The command `line`: its words, and what it prints for them."""
 
-import os
 import sys
 
-from inputs import BadInput, bytes_of, command_words, read_format, tell
+from inputs import BadInput, bytes_of, command_words, drop, read_format, tell
 from library import Library, Refused
 from shown import counted
 from values import KIND, check_kind, pack_row
@@ -19,7 +18,7 @@ Prints a line of a sheet: the values in the format's places. docs/MANUAL.md has 
   --check KINDS        checks the format against kinds, such as int8,int32,text; takes no values
   --csv FILE           prints a line for each row of a file of values separated by commas; - is standard input; takes no values
   --format-file FILE   takes the format from a file, byte for byte, in place of FORMAT
-  --help               prints this text
+  --help, -h           prints this text
   --                   what follows is no option: for a format that begins with --
 
 Kinds of values, at most 64 of them:
@@ -30,7 +29,8 @@ Kinds of values, at most 64 of them:
   text=   the rest of the word, which may be empty or hold =; all texts together at most 32,768 bytes
 
 The first line of a --csv file names columns and kinds, gate:int8,open:bool,name:text; each further line is a row. An empty place is null for
-integers and Booleans, the empty text for texts. A row that is not printed is told with its line on standard error; the others are printed.
+integers and Booleans, the empty text for texts; an empty line is no row. A row that is not printed is told with its line on standard error; the
+others are printed. Rows are read and printed some 1,000 at a time.
 
 Exit status: 0 printed, 1 refused (with the number, the place and the cure on standard error), 2 input that is not understood.
 
@@ -43,6 +43,7 @@ Examples:
 """
 
 FLAGS = {"--pieces", "--measure", "--help"}
+SHORT = {"-h": "--help"}
 WITH_WORD = {"--check", "--csv", "--column", "--format-file"}
 
 
@@ -52,6 +53,7 @@ def split_words(words):
     words = list(words)
     while words:
         word = words.pop(0)
+        word = SHORT.get(word, word)
         name, equals, value = word.partition("=")
         if word == "--":
             rest += words
@@ -90,7 +92,7 @@ def column_of(options):
 
 def kinds_of(word):
     """The kind bytes of names separated by commas; none for an empty word."""
-    names = word.split(",") if word else []
+    names = [name.strip() for name in word.split(",")] if word else []
     for name in names:
         check_kind(name)
     return bytes(KIND[name] for name in names)
@@ -170,16 +172,11 @@ def main():
             sys.stderr.write(USAGE)
         return 2
     except BrokenPipeError:
-        drop_output()
+        drop(sys.stdout)
         return 0
     except OSError as error:
-        drop_output()
+        drop(sys.stdout)
         tell("line", f"the output cannot be written: {error.strerror}")
         return 2
     except KeyboardInterrupt:
         return 130
-
-
-def drop_output():
-    """Lets what is still to be written go nowhere, so that Python's end does not try again."""
-    os.dup2(os.open(os.devnull, os.O_WRONLY), sys.stdout.fileno())

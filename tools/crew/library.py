@@ -1,6 +1,7 @@
 """The C library of panel/panel.h from Python; proved and built first where that has not been done."""
 
 import ctypes
+import fcntl
 import os
 import re
 import shutil
@@ -61,19 +62,23 @@ def crates_to_prove():
 
 def run_step(words, on_line):
     """Runs a command of the repository; `on_line` sees each line that it says."""
-    if not shutil.which(words[0]) and not os.path.exists(os.path.join(ROOT, words[0])):
-        raise BadInput(f"the library is not built, and `{words[0]}` is not on this machine to build it")
     said = []
-    with subprocess.Popen(words, cwd=ROOT, stdout=subprocess.PIPE, stderr=subprocess.STDOUT, text=True) as process:
-        for line in process.stdout:
-            said.append(line)
-            on_line(line)
+    try:
+        with subprocess.Popen(words, cwd=ROOT, stdout=subprocess.PIPE, stderr=subprocess.STDOUT, text=True, errors="replace") as process:
+            for line in process.stdout:
+                said.append(line.rstrip())
+                on_line(line)
+    except OSError as error:
+        raise BadInput(f"the library is not built: {words[0]}: {error.strerror}") from error
     if process.returncode != 0:
-        raise BadInput(f"the library could not be built; `{' '.join(words)}` said\n" + "".join(said[-12:]).rstrip())
+        raise BadInput(f"the library could not be built; `{' '.join(words)}` said", said[-12:])
 
 
 def build(why):
     """Proves and builds the library, and says how far it is."""
+    for tool in ("rt", "gcc"):
+        if not shutil.which(tool):
+            raise BadInput(f"the library {why}, and `{tool}` is not on this machine to build it")
     tell("line", f"the library {why}: proving and building it, which takes some minutes")
     total = crates_to_prove()
     proved = set()
@@ -83,26 +88,45 @@ def build(why):
         found = re.match(r"rt: ([a-z0-9_]+) proved", line)
         if found:
             proved.add(found.group(1))
-            seconds = time.monotonic() - progress.begun
-            progress.show(f"line: proved {len(proved)} of {total}, {found.group(1)}; {seconds:.0f} s")
+            last = "; now panel, which is compiled too" if len(proved) == total - 1 else ""
+            progress.show(f"line: proved {len(proved)} of {total}, {found.group(1)}; {time.monotonic() - progress.begun:.0f} s{last}")
 
-    run_step(["rt", "staticlib", "panel"], on_line)
-    run_step(["panel/shared.sh"], lambda line: None)
-    progress.end()
+    try:
+        run_step(["rt", "staticlib", "panel"], on_line)
+        run_step(["panel/shared.sh"], lambda line: None)
+    finally:
+        progress.end()
     tell("line", "the library is built")
+
+
+def build_if_needed():
+    """Builds the library where it is missing or old. Of calls at the same time one builds, and the others wait for it."""
+    if not why_not_built():
+        return
+    os.makedirs(os.path.dirname(SHARED), exist_ok=True)
+    with open(os.path.join(os.path.dirname(SHARED), "lock"), "w", encoding="utf-8") as lock:
+        try:
+            fcntl.flock(lock, fcntl.LOCK_EX | fcntl.LOCK_NB)
+        except BlockingIOError:
+            tell("line", "another call is building the library; waiting for it")
+            fcntl.flock(lock, fcntl.LOCK_EX)
+        why = why_not_built()
+        if why:
+            build(why)
 
 
 class Library:
     """The three functions."""
 
     def __init__(self):
-        why = why_not_built()
-        if why:
-            build(why)
         try:
+            build_if_needed()
             shared = ctypes.CDLL(SHARED)
-        except OSError as error:
-            raise BadInput(f"the library cannot be loaded: {error}; remove it, and it is built again") from error
+            self.find_functions(shared)
+        except (OSError, AttributeError) as error:
+            raise BadInput(f"the library cannot be loaded: {error}; without {SHARED} it is built again") from error
+
+    def find_functions(self, shared):
         lent, length, room = ctypes.c_char_p, ctypes.c_size_t, ctypes.c_void_p
         self.panel_check = self.function(shared.panel_check, Checked, [lent, length] * 2)
         self.panel_measure = self.function(shared.panel_measure, Printed, [lent, length] * 2)

@@ -11,17 +11,20 @@ from progress import Progress
 from records import Records
 from refusals import in_one_line
 from shown import counted
-from values import Rows, check_kind, parse
+from values import KIND, Rows, check_kind, parse
 
+ZERO = dict.fromkeys(KIND, "0") | {"bool": "false", "text": ""}  # a value of each kind, and a character
 AFTER, AGAIN = 1.0, 0.2  # seconds until progress is shown, and until it is shown again
 
 
 def columns_of(cells):
     """Names and kinds of the columns, from the cells NAME:KIND of the first line."""
-    parts = [cell.strip().rpartition(":") for cell in cells]
-    for cell, (_, colon, kind) in zip(cells, parts):
+    parts = [[part.strip() for part in cell.rpartition(":")] for cell in cells]
+    for cell, (name, colon, kind) in zip(cells, parts):
         if not colon:
             raise BadInput(f"{cell}: the first line names columns as NAME:KIND, such as gate:int8")
+        if ";" in name or "\t" in name:
+            raise BadInput(f"{cell}: columns are separated by commas")
         check_kind(kind)
     return [name for name, _, _ in parts], [kind for _, _, kind in parts]
 
@@ -31,58 +34,64 @@ class Log:
 
     def __init__(self, name):
         self.records = Records(name)
-        self.left = self.records.some() or []
-        if not self.left:
-            raise BadInput("no columns; the first line names them, such as gate:int8,name:text")
-        line, cells = self.left.pop(0)
-        if isinstance(cells, BadInput):
-            raise BadInput(f"{self.records.name}:{line}: {cells}")
-        self.names, self.kinds = columns_of(cells)
-        self.rows = Rows(self.kinds)
+        numbers, records = self.records.some() or ([], [])
+        if not records:
+            raise BadInput(f"{self.records.name}: no columns; the first line names them, such as gate:int8,name:text")
+        try:
+            if isinstance(records[0], BadInput):
+                raise records[0]
+            self.names, self.kinds = columns_of(records[0])
+            self.rows = Rows(self.kinds)
+        except BadInput as error:
+            raise BadInput(f"{self.records.name}:{numbers[0]}: {error}") from error
+        self.left = numbers[1:], records[1:]
         self.printed = self.unread = 0
         self.refused = collections.Counter()
 
     def print(self, library, form, column):
-        """Prints every row that can be printed, and tells of every other. A format that no row fits is refused first."""
+        """Prints every row that can be printed, and tells of every other. A format that is refused for every row of these kinds is refused first."""
         pieces = library.check(form, self.rows.kinds).pieces
+        library.measure(form, self.rows.pack([[ZERO[kind]] for kind in self.kinds], 1)[0])  # finds 15, which goes by the kinds
         if column > pieces:
             raise BadInput(f"--column {column}: the format has {counted(pieces, 'piece')}")
         self.output = Output(library, form, column)
         self.progress, self.look_at = Progress(), AFTER
-        while self.left is not None:
-            if self.left:
-                self.print_records(self.left)
-                self.show_progress()
-            self.left = self.records.some()
+        some = self.left
+        while some is not None:
+            self.print_records(*some)
+            self.show_progress()
+            some = self.records.some()
         self.output.write()
         self.progress.end()
         tell("line", self.summary())
 
-    def print_records(self, records):
-        """Prints records, each behind its line in the file; one by one where one of them is not understood."""
+    def print_records(self, numbers, records):
+        """Prints records, given with their lines' numbers; half by half where one of them is not understood."""
+        if not records:
+            return
         try:
-            rows = self.pack([cells for _, cells in records])
+            rows = self.pack(records)
         except BadInput as error:
-            if len(records) > 1:
-                for record in records:
-                    self.print_records([record])
+            half = len(records) // 2
+            if half:
+                self.print_records(numbers[:half], records[:half])
+                self.print_records(numbers[half:], records[half:])
             else:
                 self.unread += 1
-                self.tell(records[0][0], error)
+                self.tell(numbers[0], error)
             return
         self.printed += len(rows)
         for k, refused in self.output.print(rows):
             self.printed -= 1
             self.refused[refused.number] += 1
-            self.tell(records[k][0], in_one_line(refused))
+            self.tell(numbers[k], in_one_line(refused))
 
     def pack(self, records):
         """The rows of records' cells; an empty cell of a kind that can be null is null."""
-        for cells in records:
-            if isinstance(cells, BadInput):
-                raise cells
-            if len(cells) != len(self.kinds):
-                raise BadInput(f"{counted(len(cells), 'value')} for {counted(len(self.kinds), 'column')}")
+        if isinstance(records[0], BadInput):  # which comes alone
+            raise records[0]
+        if set(map(len, records)) != {len(self.kinds)}:
+            raise BadInput(f"{counted(len(records[0]), 'value')} for {counted(len(self.kinds), 'column')}")
         columns = list(zip(*records))
         for k, kind in enumerate(self.kinds):
             if kind not in ("f64", "text") and "" in columns[k]:

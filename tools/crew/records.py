@@ -33,30 +33,42 @@ class Records:
         self.ended = len(lines) < count
 
     def some(self):
-        """The next records, each behind the number of its first line; a BadInput for one that is not well formed. None at the end. Empty lines are no records."""
+        """The next records and the number of each one's first line; a BadInput in place of one that is not well formed. None at the end. Empty lines are no records."""
         if not self.lines:
             self.read_lines(MOST_LINES)
         if not self.lines:
             return None
-        found, taken = self.parsed()
+        numbers, records, taken = self.parsed()
         while taken == 0 and not self.ended and self.open_to_the_end:
             self.read_lines(len(self.lines))
-            found, taken = self.parsed()
+            numbers, records, taken = self.parsed()
         if taken == 0:
-            found, taken = [(self.before + 1, BadInput(self.error))], 1
+            numbers, records, taken = [self.before + 1], [BadInput(self.error)], 1
         self.before += taken
         del self.lines[:taken]
-        return found
+        return numbers, records
 
     def parsed(self):
-        """The records that stand in the lines up to the first that is not well formed, and how many lines they take."""
-        found, taken = [], 0
+        """The records that stand in the lines up to the first that is not well formed, their first lines, and how many lines they take."""
+        reader = csv.reader(self.lines, strict=True)
+        try:
+            records = list(reader)
+            if len(records) == len(self.lines) and [] not in records:
+                return range(self.before + 1, self.before + 1 + len(records)), records, len(records)
+        except csv.Error:
+            pass
+        return self.parsed_one_by_one()
+
+    def parsed_one_by_one(self):
+        """The same, where a record takes more lines than one, or none."""
+        numbers, records, taken = [], [], 0
         reader = csv.reader(self.lines, strict=True)
         try:
             for cells in reader:
                 if cells:
-                    found.append((self.before + taken + 1, cells))
+                    numbers.append(self.before + taken + 1)
+                    records.append(cells)
                 taken = reader.line_num
         except csv.Error as error:
             self.error, self.open_to_the_end = str(error), reader.line_num == len(self.lines)
-        return found, taken
+        return numbers, records, taken

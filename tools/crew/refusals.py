@@ -6,7 +6,7 @@ from shown import mark
 REFUSALS = {
     1: ("the format is longer than 4,096 bytes", "print it in two parts"),
     2: ("the format is not well-formed UTF-8", "save the format as UTF-8"),
-    3: ("checking: more than 64 kinds, or a kind that is none", "list at most 64 kinds, 1 to 7, without null marks"),
+    3: ("checking: more than 64 kinds, or a kind that is none", "list at most 64 kinds, without null marks"),
     4: ("`%<` before any element", "write the first element without `<`"),
     5: ("`%$`", "write a number between `%` and `$`, or leave out `$`"),
     6: ("a number above 2,147,483,647", "write a smaller index, width or precision"),
@@ -28,10 +28,10 @@ WITHOUT_PLACE = {1, 2, 3, 14, 17}
 
 
 def in_one_line(refused):
-    """The refusal with its cause, and the place in the format where it has one."""
-    cause, _ = REFUSALS[refused.number]
+    """The refusal with its cause, the place in the format where it has one, and the cure."""
+    cause, cure = REFUSALS[refused.number]
     where = "" if refused.number in WITHOUT_PLACE else f", at byte {refused.place} of the format"
-    return f"refused with {refused.number}: {cause}{where}"
+    return f"refused with {refused.number}: {cause}{where}; cure: {cure}"
 
 
 def explained(form, refused):

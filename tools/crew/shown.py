@@ -2,6 +2,8 @@
 
 import unicodedata
 
+from inputs import escaped
+
 NAMED = {"\n": "\\n", "\r": "\\r", "\t": "\\t"}
 HIDDEN = {"Cc", "Cf", "Cs", "Co", "Cn", "Zl", "Zp"}  # categories of characters that show nothing, or move what follows
 ENOUGH = 1024  # bytes in which there are more columns than a table shows
@@ -16,10 +18,7 @@ def unit(character):
     if category in ABOVE:
         return character, 0
     if category in HIDDEN:
-        number = ord(character)
-        if 0xDC80 <= number < 0xDD00:  # a byte that is no UTF-8
-            number -= 0xDC00
-        text = f"\\x{number:02x}" if number < 256 else f"\\u{{{number:x}}}"
+        text = escaped(character)
         return text, len(text)
     return character, 2 if unicodedata.east_asian_width(character) in "WF" else 1
 

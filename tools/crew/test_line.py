@@ -75,13 +75,16 @@ class OneLine(Case):
         for words, message in (("'%d' int8=7 >&-", "standard output is closed"), ("--csv - '%d' <&-", "standard input is closed")):
             done = subprocess.run(f"{TOOLS}/line {words}", shell=True, capture_output=True, check=False)
             self.assertEqual((done.returncode, done.stderr.decode()), (2, f"line: {message}\n"))
-        self.assertEqual(subprocess.run(f"{TOOLS}/line '%q' int8=7 2>&-", shell=True, capture_output=True, check=False).returncode, 1)
+        for end in ("2>&-", "2>/dev/full"):
+            for words, status in (("'%q' int8=7", 1), ("'%d' int8=700", 2), (f"--csv {HERE}/example.csv '%d'", 2)):
+                self.assertEqual(subprocess.run(f"{TOOLS}/line {words} {end}", shell=True, capture_output=True, check=False).returncode, status)
 
     def test_format_that_begins_with_hyphens(self):
         self.prints(b"--7\n", "--", "--%d", "int8=7")
         self.prints(b"-7\n", "-%d", "int8=7")
 
     def test_help(self):
+        self.assertEqual(run("-h"), run("--help"))
         status, out, said = run("--help")
         self.assertEqual((status, said), (0, ""))
         self.assertIn(b"Examples:", out)
@@ -92,7 +95,7 @@ class OneLine(Case):
 
 
     def test_an_output_that_cannot_be_written_is_told(self):
-        for words in ("'%d' int8=7", "--csv tools/crew/example.csv '%d'"):
+        for words in ("'%d' int8=7", "--csv tools/crew/example.csv '%d'", "--help"):
             done = subprocess.run(f"{TOOLS}/line {words} > /dev/full", shell=True, capture_output=True, check=False, cwd=ROOT)
             self.assertEqual((done.returncode, done.stderr.splitlines()[-1:]), (2, [b"line: the output cannot be written: No space left on device"]))
 
@@ -129,7 +132,7 @@ class Building(unittest.TestCase):
             status, out, said = self.run_new(folder, "echo 'rt: words proved (3 s)'")
             self.assertEqual((status, out), (0, b"7\n"))
             self.assertEqual([line[:41] for line in said.splitlines()],
-                             ["line: the library is not built yet: provi", "line: proved 1 of 2, words; 0 s", "line: the library is built"])
+                             ["line: the library is not built yet: provi", "line: proved 1 of 2, words; 0 s; now pane", "line: the library is built"])
             self.assertEqual(self.run_again(folder), (0, b"7\n", ""))
             with open(os.path.join(folder, "crates/words/src/lib.rt"), "w", encoding="utf-8"):
                 pass
@@ -137,6 +140,19 @@ class Building(unittest.TestCase):
             with open(os.path.join(folder, "target/panel/libpanel.so"), "w", encoding="utf-8") as file:
                 file.write("no library")
             self.assertIn("line: the library cannot be loaded", self.run_again(folder)[2])
+
+    def test_calls_at_the_same_time(self):
+        with tempfile.TemporaryDirectory() as folder:
+            self.run_new(folder, "")
+            self.script(folder, "bin/rt", "echo built >> log; sleep 1; echo 'rt: words proved (3 s)'")
+            words = [os.path.join(folder, "tools", "line"), "%d", "int8=7"]
+            env = {"PATH": os.path.join(folder, "bin") + ":/usr/bin:/bin"}
+            calls = [subprocess.Popen(words, stdout=subprocess.PIPE, stderr=subprocess.PIPE, env=env) for _ in range(2)]
+            said = [call.communicate() for call in calls]
+            self.assertEqual([out for out, _ in said], [b"7\n"] * 2)
+            self.assertIn(b"line: another call is building the library; waiting for it\n", [text for _, text in said])
+            with open(os.path.join(folder, "log"), encoding="utf-8") as file:
+                self.assertEqual(file.read(), "built\n")
 
     def test_not_to_be_built(self):
         with tempfile.TemporaryDirectory() as folder:
@@ -146,7 +162,7 @@ class Building(unittest.TestCase):
         with tempfile.TemporaryDirectory() as folder:
             status, out, said = self.run_new(folder, "")
             self.assertEqual((status, out), (2, b""))
-            self.assertTrue(said.endswith("line: the library is not built, and `rt` is not on this machine to build it\n"), said)
+            self.assertTrue(said.endswith("line: the library is not built yet, and `rt` is not on this machine to build it\n"), said)
 
 
 class BadInputs(Case):
@@ -160,6 +176,10 @@ class BadInputs(Case):
         self.cannot("int8=300: out of range, which is -128 to 127", "%d", "int8=300")
         self.cannot("a value is written KIND=VALUE", "%d", "7")
         self.cannot("65 values: more than 64", "%d", *["int8=1"] * 65)
+
+    def test_messages_are_shown_as_they_are(self):
+        self.cannot("int8=\\x1b[2J\\x0a\\xff: not a whole number", "%d", b"int8=\x1b[2J\n\xff")
+        self.cannot("..." + "9" * 64 + ": out of range, which is -128 to 127", "%d", "int8=" + "9" * 5000)
 
     def test_options_that_do_not_go_together(self):
         self.cannot("--pieces and --measure do not go together", "--pieces", "--measure", "%d", "int8=1")
@@ -345,7 +365,7 @@ class Logs(Case):
             name = os.path.join(folder, "log.csv")
             with open(name, "wb") as file:
                 file.write(b"\xef\xbb\xbfgate:int8,name:text\r\n\r\n7,\xff\r\n8,b")
-            self.assertEqual(run("--csv", name, "%d"), (1, b"8\n", f"line: {name}:3: refused with 14: the row breaks its layout\n"
+            self.assertEqual(run("--csv", name, "%d"), (1, b"8\n", f"line: {name}:3: refused with 14: the row breaks its layout; cure: {REFUSALS[14][1]}\n"
                                                         "line: 1 row printed, 1 row refused with 14\n"))
             self.cannot("No such file", "--csv", name + "-", "%d")
 
@@ -358,7 +378,7 @@ class Logs(Case):
         status, out, said = self.csv("a:int32,b:f64\n65,1\n-1,1\nx,1\n66\n67,\n68,\"2\"3\n69,3\n", "%c")
         self.assertEqual((status, out), (2, b"A\nE\n"))
         self.assertEqual(said, """\
-line: standard input:3: refused with 16: `%c` of a number that is no character, at byte 0 of the format
+line: standard input:3: refused with 16: `%c` of a number that is no character, at byte 0 of the format; cure: take 0 to D7FF or E000 to 10FFFF, hexadecimal
 line: standard input:4: a: int32=x: not a whole number, decimal or 0x..
 line: standard input:5: 1 value for 2 columns
 line: standard input:6: b: f64=: not a decimal or hexadecimal float, nan, inf, -inf or bits:0x..
@@ -376,6 +396,9 @@ line: 2 rows printed, 1 row refused with 16, 4 rows not understood
         status, out, said = self.csv(LOG, "%d %q")
         self.assertEqual((status, out), (1, b""))
         self.assertTrue(said.startswith("line: refused with 10:"), said)
+        status, out, said = self.csv(LOG, "%d %3$s")
+        self.assertEqual((status, out), (1, b""))
+        self.assertTrue(said.startswith("line: refused with 15:"), said)
 
     def test_a_quote_that_is_not_closed_takes_its_line_alone(self):
         status, out, said = self.csv('a:int8,b:text\n1,x\n2,"y\n3,z\n4,"w\nw"\n5,v\n', "%d %s")
@@ -400,7 +423,9 @@ line: 2 rows printed, 1 row refused with 16, 4 rows not understood
         self.cannot("standard input:1: ',' expected", "--csv", "-", "%d", given=b'"gate":int8\n7\n')
         self.cannot("standard input:1: field larger", "--csv", "-", "%d", given=b"a" * 200000 + b":int8\n7\n")
         self.cannot("gate: the first line names columns as NAME:KIND", "--csv", "-", "%d", given=b"gate\n7\n")
-        self.cannot("int7: no such kind", "--csv", "-", "%d", given=b"gate:int7\n7\n")
+        self.cannot("standard input:1: int7: no such kind", "--csv", "-", "%d", given=b"gate:int7\n7\n")
+        self.cannot("columns are separated by commas", "--csv", "-", "%d", given=b"gate:int8;name:text\n7;a\n")
+        self.assertEqual(self.csv("gate: int8, name :text\n7,a\n", "%d")[:2], (0, b"7\n"))
         self.cannot("no columns", "--csv", "-", "%d", given=b"")
         self.cannot("65 values: more than 64", "--csv", "-", "%d", given=b",".join([b"a:int8"] * 65))
 

@@ -3,9 +3,28 @@
 import os
 import sys
 
+MOST_SHOWN = 300  # characters of a message
+
 
 class BadInput(Exception):
-    """Its message says what cannot be taken, and why."""
+    """Its message says what cannot be taken, and why. Lines may follow that another program said."""
+
+    def __init__(self, message, lines=()):
+        super().__init__("\n".join([printable(message), *lines]))
+
+
+def printable(message):
+    """A message in one line that a terminal can show, without the middle of very long words."""
+    if len(message) > MOST_SHOWN:
+        message = message[:MOST_SHOWN - 100] + "..." + message[-100:]
+    return "".join(character if character.isprintable() else escaped(character) for character in message)
+
+
+def escaped(character):
+    number = ord(character)
+    if 0xDC80 <= number < 0xDD00:  # a byte that is no UTF-8
+        number -= 0xDC00
+    return f"\\x{number:02x}" if number < 256 else f"\\u{{{number:x}}}"
 
 
 def command_words():
@@ -28,6 +47,15 @@ def read_format(name):
 
 
 def tell(program, message):
-    """A line on standard error, if it is open; what no terminal can show is escaped."""
+    """A message on standard error, where that can be written."""
     if sys.stderr:
-        sys.stderr.write(f"{program}: {message}\n".encode("utf-8", "backslashreplace").decode())
+        try:
+            sys.stderr.write(f"{program}: {message}\n")
+            sys.stderr.flush()
+        except OSError:
+            drop(sys.stderr)
+
+
+def drop(stream):
+    """Lets what is still to be written go nowhere, so that Python's end does not try again."""
+    os.dup2(os.open(os.devnull, os.O_WRONLY), stream.fileno())

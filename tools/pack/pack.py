@@ -1,11 +1,10 @@
 #!/usr/bin/env python3
 """Packs a format and values into the input of the program `sheet`, on standard output."""
 
-import os
 import struct
 import sys
 
-from inputs import BadInput, bytes_of, command_words, read_format, tell
+from inputs import BadInput, bytes_of, command_words, drop, read_format, tell
 from values import pack_row
 
 USAGE = "usage: pack.py [--] FORMAT [KIND=VALUE ...] | pack.py --format-file FILE [KIND=VALUE ...] | pack.py --help\n"
@@ -74,7 +73,7 @@ def main():
         sys.stdout.buffer.write(data)
         sys.stdout.buffer.flush()
     except BrokenPipeError:  # `sheet` reads no more than 65,536 bytes
-        os.dup2(os.open(os.devnull, os.O_WRONLY), sys.stdout.fileno())
+        drop(sys.stdout)
     return 0
 
 
