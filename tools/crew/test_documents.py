@@ -12,7 +12,7 @@ import sys
 
 ROOT = os.path.dirname(os.path.dirname(os.path.dirname(os.path.abspath(__file__))))
 DOCUMENTS = ["README.md", "docs/MANUAL.md"]
-INDENT, PROMPT = "    ", "    $ "
+INDENT, COMMAND = "    ", "    $ "
 
 
 def examples(name):
@@ -21,8 +21,8 @@ def examples(name):
     with open(os.path.join(ROOT, name), encoding="utf-8") as file:
         inside = False
         for number, line in enumerate(file, 1):
-            if line.startswith(PROMPT):
-                found.append((number, line[len(PROMPT):].rstrip("\n"), []))
+            if line.startswith(COMMAND):
+                found.append((number, line[len(COMMAND):].rstrip("\n"), []))
                 inside = True
             elif inside and line.startswith(INDENT):
                 found[-1][2].append(line[len(INDENT):])
