@@ -1,4 +1,4 @@
-/* A host program: prints a log of rows with one format, cuts single columns out by the ends, and shows every refusal. */
+/* A host program: prints a log of rows with one format, cuts single columns out by the ends, prints floats and moments, and shows every refusal. */
 #include <inttypes.h>
 #include <stdio.h>
 #include <stdlib.h>
@@ -8,7 +8,7 @@
 
 /* ---- Packing a row ---- */
 
-enum { INT8 = 1, INT16 = 2, INT32 = 3, INT64 = 4, FLOAT64 = 5, BOOLEAN = 6, TEXT = 7, NULL_MARK = 128 };
+enum { INT8 = 1, INT16 = 2, INT32 = 3, INT64 = 4, FLOAT64 = 5, BOOLEAN = 6, TEXT = 7, TIME = 8, NULL_MARK = 128 };
 
 enum { MOST_VALUES = 64, MOST_TEXT = 32768, MOST_ROW = 6 + 9 * MOST_VALUES + MOST_TEXT };
 
@@ -221,6 +221,35 @@ static void show_floats(void)
     }
 }
 
+/* ---- Moments ---- */
+
+/* A moment is its nanoseconds since 1970. A negative number of seconds takes no nanoseconds beside: printing refuses those (18). */
+static void add_time(struct row *row, int64_t seconds, int32_t nanoseconds)
+{
+    add_integer(row, TIME, seconds * 1000000000 + nanoseconds);
+}
+
+static void show_moments(void)
+{
+    static const struct {
+        int64_t seconds;
+        int32_t nanoseconds;
+    } moments[] = { { 1794726309, 25000000 }, { 951868799, 999999999 }, { 0, 0 }, { -1, 0 }, { -9223372036, 0 }, { 9223372036, 854775807 } };
+    static const char format[] = "%tF %<tT.%<tN %<ta %<Tb day %<tj, %<tr";
+    uint8_t packed[6 + 9];
+
+    printf("\nformat %s\n", format);
+    for (size_t i = 0; i < sizeof moments / sizeof moments[0]; i++) {
+        struct row row = { 0 };
+        uint8_t *out, *ends;
+        add_time(&row, moments[i].seconds, moments[i].nanoseconds);
+        struct panel_printed printed = print_row(format, packed, pack(&row, packed), &out, &ends);
+        printf("%.*s\n", (int)printed.length, (const char *)out);
+        free(out);
+        free(ends);
+    }
+}
+
 /* ---- Refusals ---- */
 
 /* Bytes outside ASCII's printable ones as \xHH; a long format by its length. */
@@ -237,16 +266,21 @@ static void show_format(const char *format)
             printf("\\x%02X", *b);
 }
 
-/* What printing a row of one Int32 answers, with room for 64 bytes and 16 ends. */
-static void show_print(const char *format, int64_t value)
+/* What printing a row of one value answers, with room for 64 bytes and 16 ends. */
+static void show_print_of(uint8_t kind, const char *format, int64_t value)
 {
     uint8_t packed[6 + 9], out[64], ends[64];
     struct row row = { 0 };
-    add_integer(&row, INT32, value);
+    add_integer(&row, kind, value);
     struct panel_printed r = panel_print(bytes(format), strlen(format), packed, pack(&row, packed), out, sizeof out, ends, sizeof ends);
     printf("%2" PRIu64 " at %-4" PRIu64 " print ", r.number, r.place);
     show_format(format);
     printf(" with value %" PRId64 "\n", value);
+}
+
+static void show_print(const char *format, int64_t value)
+{
+    show_print_of(INT32, format, value);
 }
 
 static void show_check(const char *format, const uint8_t *kinds, size_t count)
@@ -262,7 +296,7 @@ static void show_check(const char *format, const uint8_t *kinds, size_t count)
 
 static void show_refusals(void)
 {
-    static const uint8_t no_kind[] = { INT32, 8 }, one_text[] = { TEXT }, one_wide[] = { INT64 };
+    static const uint8_t no_kind[] = { INT32, 9 }, one_text[] = { TEXT }, one_wide[] = { INT64 };
     static char over_long[4097 + 1], many_pieces[2 * 513 + 1];
 
     memset(over_long, 'x', 4097);
@@ -287,12 +321,14 @@ static void show_refusals(void)
     show_print("no %a", 0);
     show_print("no %c", 0xD800);
     show_print("%65d", 0);
+    show_print_of(TIME, "at %tT", -1);
 }
 
 int main(void)
 {
     show_log();
     show_floats();
+    show_moments();
     show_refusals();
     return 0;
 }

@@ -26,9 +26,12 @@
  *   6          Boolean: 0 or 1
  *   7          text: low 4 bytes its offset in the text area, high 4 bytes its length; their sum is at most t, and the
  *              bytes so named are well-formed UTF-8; parts may overlap
+ *   8          time: nanoseconds since 1970-01-01T00:00:00Z as a signed integer of 64 bits, any of them; never null
  *   129 to 132, 134   null of the kind less 128; the value is 0
  *
  * Values that no element takes must be right too. Bytes of the text area that no value names may be anything.
+ *
+ * A time is printed by t and T with a letter behind, as in `%tF %<tT`. s and h fit it too, and are not printed (15).
  *
  *
  * Refusals
@@ -36,7 +39,7 @@
  *   no.  cause                                                                       place   c m p
  *   1    format over 4,096 bytes                                                     0       c m p
  *   2    format not well-formed UTF-8                                                0       c m p
- *   3    over 64 kinds, or a kind not 1 to 7                                         0       c
+ *   3    over 64 kinds, or a kind not 1 to 8                                         0       c
  *   4    `%<` before any element                                                     `%`     c m p
  *   5    `%$`                                                                        `%`     c m p
  *   6    argument index, width or precision above 2,147,483,647                      `%`     c m p
@@ -51,12 +54,13 @@
  *   15   letter fits the kind but is not printed for it                              `%`       m p
  *   16   %c or %C of an integer that is no Unicode scalar value                      `%`       m p
  *   17   text longer than the output or than 4,294,967,295, or more pieces than ends 0           p
+ *   18   t or T of a negative time that is not a whole second                        `%`       m p
  *
  * The last column says which functions return the number: c panel_check, m panel_measure, p panel_print. A place is an
  * offset in the format: `%` that of the element's `%`, "piece" that where the 513th piece starts.
  *
  * Where several causes hold: 1, 2, then 3 or 14; then 4 to 13 from left to right, 13 before the others at each piece,
- * and inside an element in reading order; then 15 and 16 from left to right; then 17.
+ * and inside an element in reading order; then 15, 16 and 18 from left to right; then 17.
  */
 #ifndef PANEL_H
 #define PANEL_H
@@ -80,7 +84,7 @@ struct panel_printed {
     uint64_t number, place, length, pieces;
 };
 
-/* Checks a format against a list of kinds, one byte each, 1 to 7 (no null marks). Writes nothing. */
+/* Checks a format against a list of kinds, one byte each, 1 to 8 (no null marks). Writes nothing. */
 struct panel_checked panel_check(const uint8_t *fmt, size_t fmt_len, const uint8_t *kinds, size_t kinds_len);
 
 /* The length and count of pieces that printing this row under this format has. Writes nothing, and needs no room: it

@@ -52,15 +52,32 @@ static int call_print(const struct slice *f, const struct slice *w, const struct
 
 /* ---- Answers ---- */
 
-static uint64_t seen_check[18], seen_measure[18], seen_print[18];
+enum { NUMBERS = 18 };
+
+static uint64_t seen_check[NUMBERS + 1], seen_measure[NUMBERS + 1], seen_print[NUMBERS + 1];
+
+static int can_check(uint64_t number)
+{
+    return number <= 13;
+}
+
+static int can_print(uint64_t number)
+{
+    return number <= NUMBERS && number != 3;
+}
+
+static int can_measure(uint64_t number)
+{
+    return can_print(number) && number != 17;
+}
 
 void try_coverage(void)
 {
     set_case(NULL, 0, NULL, 0);
-    for (int n = 0; n <= 17; n++) {
-        verdict((seen_check[n] > 0) == (n <= 13), "numbers seen from checking");
-        verdict((seen_measure[n] > 0) == (n <= 16 && n != 3), "numbers seen from measuring");
-        verdict((seen_print[n] > 0) == (n != 3), "numbers seen from printing");
+    for (uint64_t n = 0; n <= NUMBERS; n++) {
+        verdict((seen_check[n] > 0) == can_check(n), "numbers seen from checking");
+        verdict((seen_measure[n] > 0) == can_measure(n), "numbers seen from measuring");
+        verdict((seen_print[n] > 0) == can_print(n), "numbers seen from printing");
     }
 }
 
@@ -116,7 +133,7 @@ int try_check(const uint8_t *format, size_t length, const uint8_t *kinds, size_t
     struct slice k = lend_content(&row_yard, kinds, count, side);
     if (!call_check(&f, &k, r) || !kept(&f) || !kept(&k))
         return 0;
-    if (r->number > 13)
+    if (!can_check(r->number))
         return 0;
     seen_check[r->number]++;
     if (r->number == 0)
@@ -130,7 +147,7 @@ static int try_measure(const struct input *in, struct panel_printed *r)
     struct slice w = lend_content(&row_yard, in->row, in->row_length, in->side);
     if (!call_measure(&f, &w, r) || !kept(&f) || !kept(&w))
         return 0;
-    if (r->number == 3 || r->number > 16)
+    if (!can_measure(r->number))
         return 0;
     seen_measure[r->number]++;
     if (r->number == 0)
@@ -207,7 +224,7 @@ static int try_kinds(const struct input *in, struct panel_printed m)
         return 0;
     if (m.number == 0)
         return c.number == 0 && c.pieces == m.pieces;
-    if (m.number == 15 || m.number == 16)
+    if (m.number == 15 || m.number == 16 || m.number == 18)
         return c.number == 0;
     return c.number == m.number && c.place == m.place;
 }

@@ -59,7 +59,7 @@ static void try_each_kind(const uint8_t *format, uint8_t *kinds, enum side side)
         int good = try_check(format, 5, kinds, MOST_KINDS, side, &c);
         if (kind >= 1 && kind <= 4)
             verdict(good && is_check(c, 0, 0, 1, 64), "a kind of integer");
-        else if (kind >= 5 && kind <= 7)
+        else if (kind >= 5 && kind <= 8)
             verdict(good && is_check(c, 12, 0, 0, 0), "%d of another kind");
         else
             verdict(good && is_check(c, 3, 0, 0, 0), "no kind");
@@ -152,7 +152,7 @@ void try_null_pointers(void)
     }
     verdict(is_check(panel_check(NULL, 0, NULL, 0), 0, 0, 0, 0), "check, all null");
     verdict(is_check(panel_check((const uint8_t *)"%d", 2, NULL, 0), 7, 0, 0, 0), "check, no kinds");
-    verdict(is_check(panel_check(NULL, 0, (const uint8_t *)"\010", 1), 3, 0, 0, 0), "check, no format");
+    verdict(is_check(panel_check(NULL, 0, (const uint8_t *)"\011", 1), 3, 0, 0, 0), "check, no format");
     verdict(is_print(panel_measure(NULL, 0, NULL, 0), 14, 0, 0, 0), "measure, all null");
     verdict(is_print(panel_measure(NULL, 0, empty_row, 6), 0, 0, 0, 0), "measure, no format");
     verdict(is_print(panel_measure((const uint8_t *)"%d", 2, NULL, 0), 14, 0, 0, 0), "measure, no row");

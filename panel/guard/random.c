@@ -52,16 +52,28 @@ static void put_count(struct buffer *b, size_t n)
     put(b, digits);
 }
 
+/* t or T and one of the letters that may stand behind. */
+static void put_time_letter(struct buffer *b)
+{
+    static const char letters[] = "HIklMSLNpzZsQBbhAaCYyjmdeRTrDFc";
+    const char letter[] = { letters[below(sizeof letters - 1)], 0 };
+    put(b, one_in(2) ? "t" : "T");
+    put(b, letter);
+}
+
 static void put_letter(struct buffer *b, uint8_t kind)
 {
     static const char *const integer[] = { "d", "d", "x", "X", "o", "s", "S", "c", "C" };
     static const char *const any[] = { "b", "h", "H", "e", "E", "f", "g", "G", "a", "A", "tH", "Tq", "t", "q", "$", "%", "n", "\303\251" };
+    static const char *const other[][2] = { { "a", "A" }, { "b", "B" }, { "s", "S" } };
     if (one_in(25))
         put(b, any[below(sizeof any / sizeof any[0])]);
     else if ((kind & 127) <= 4)
         put(b, integer[below(sizeof integer / sizeof integer[0])]);
+    else if (kind == 8)
+        put_time_letter(b);
     else
-        put(b, kind == 5 ? (one_in(2) ? "a" : "A") : (kind & 127) == 6 ? (one_in(2) ? "b" : "B") : one_in(2) ? "s" : "S");
+        put(b, other[(kind & 127) - 5][one_in(2)]);
 }
 
 /* Flags, width and precision, some or none of them. */
@@ -143,6 +155,13 @@ static uint64_t random_text(struct buffer *area)
     return (uint64_t)(area->length - start) << 32 | start;
 }
 
+/* A moment; half of them whole seconds, since the others are refused before 1970. */
+static uint64_t random_time(void)
+{
+    int64_t nanoseconds = (int64_t)random_integer(64);
+    return (uint64_t)(one_in(2) ? nanoseconds / 1000000000 * 1000000000 : nanoseconds);
+}
+
 static uint64_t random_value(uint8_t kind, struct buffer *area)
 {
     if (kind <= 4)
@@ -151,6 +170,8 @@ static uint64_t random_value(uint8_t kind, struct buffer *area)
         return random_float();
     if (kind == 6)
         return below(2);
+    if (kind == 8)
+        return random_time();
     return random_text(area);
 }
 
@@ -159,10 +180,10 @@ static void random_row(struct row *row)
     struct buffer area = { row->area, 0, 4096 };
     row->count = one_in(20) ? below(MOST_KINDS + 1) : below(8);
     for (size_t i = 0; i < row->count; i++) {
-        uint8_t kind = (uint8_t)(1 + below(7));
+        uint8_t kind = (uint8_t)(1 + below(8));
         row->kind[i] = kind;
         row->value[i] = random_value(kind, &area);
-        if (kind != 5 && kind != 7 && one_in(8)) {
+        if (kind != 5 && kind < 7 && one_in(8)) {
             row->kind[i] |= 128;
             row->value[i] = 0;
         }
@@ -229,7 +250,7 @@ void try_random(uint64_t seed, size_t rounds)
 
         size_t count = below(9);
         for (size_t k = 0; k < count; k++)
-            kinds[k] = one_in(20) ? (uint8_t)draw() : (uint8_t)(1 + below(7));
+            kinds[k] = one_in(20) ? (uint8_t)draw() : (uint8_t)(1 + below(8));
         set_case(format, length, kinds, count);
         struct panel_checked at_end, at_start;
         int good = try_check(format, length, kinds, count, AT_END, &at_end);

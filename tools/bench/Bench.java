@@ -1,10 +1,12 @@
+import java.time.Instant;
+import java.time.ZoneOffset;
 import java.util.Locale;
 
 /**
  * Times String.format of one format and its values under Locale.ROOT, after a warm-up of two seconds.
  *
- * Arguments: the format, then the values: a letter (b Byte, i Integer, d Double, z Boolean, x String) and what it names. Prints three lines: the
- * least nanoseconds for a call, Java's version, the text.
+ * Arguments: the format, then the values: a letter (b Byte, i Integer, d Double, z Boolean, x String, t ZonedDateTime in UTC from nanoseconds since
+ * 1970) and what it names. Prints three lines: the least nanoseconds for a call, Java's version, the text.
  */
 public final class Bench {
     private static final long WARM_UP = 2_000_000_000L;
@@ -63,6 +65,8 @@ public final class Bench {
                 return Boolean.valueOf(named);
             case 'x':
                 return named;
+            case 't':
+                return Instant.ofEpochSecond(0, Long.parseLong(named)).atZone(ZoneOffset.UTC);
             default:
                 throw new IllegalArgumentException(argument);
         }

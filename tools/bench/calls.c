@@ -2,6 +2,7 @@
    counts. */
 #include <gnu/libc-version.h>
 #include <stdio.h>
+#include <time.h>
 
 #include "panel.h"
 
@@ -26,11 +27,18 @@ uint64_t bench_measure(const uint8_t *fmt, size_t fmt_len, const uint8_t *row, s
     return sum;
 }
 
-/* What a row hands to snprintf; the order is that of `Shape` in rows.rs. */
-enum shape { NOTHING, INTEGER, FLOATING, TEXT, SHEET, FOUR, FIFTEEN, THIRTY };
+/* What a row hands to snprintf, a moment to strftime; the order is that of `Shape` in rows.rs. */
+enum shape { NOTHING, INTEGER, FLOATING, TEXT, SHEET, FOUR, FIFTEEN, THIRTY, MOMENT };
 
-/* n: the row's integers; f: its float; s: its text. SHEET takes n[0] to n[2], "true" and s. */
-uint64_t bench_snprintf(int shape, const char *fmt, const int *n, double f, const char *s, char *out, size_t out_len, uint64_t calls)
+static int print_moment(char *out, size_t out_len, const char *fmt, time_t t)
+{
+    struct tm parts;
+    return (int)strftime(out, out_len, fmt, gmtime_r(&t, &parts));
+}
+
+/* n: the row's integers; f: its float; s: its text; t: the seconds of its moment. SHEET takes n[0] to n[2], "true" and s. */
+uint64_t bench_snprintf(int shape, const char *fmt, const int *n, double f, const char *s, int64_t t, char *out, size_t out_len,
+                        uint64_t calls)
 {
     uint64_t sum = 0;
     for (uint64_t i = 0; i < calls; i++) {
@@ -62,6 +70,9 @@ uint64_t bench_snprintf(int shape, const char *fmt, const int *n, double f, cons
             length = snprintf(out, out_len, fmt, n[0], n[1], n[2], n[3], n[4], n[5], n[6], n[7], n[8], n[9], n[10], n[11], n[12],
                               n[13], n[14], n[15], n[16], n[17], n[18], n[19], n[20], n[21], n[22], n[23], n[24], n[25], n[26],
                               n[27], n[28], n[29]);
+            break;
+        case MOMENT:
+            length = print_moment(out, out_len, fmt, t);
             break;
         }
         sum += (uint64_t)length + (unsigned char)out[0];

@@ -1,15 +1,14 @@
 """The command `line`: its words, and what it prints for them."""
 
-import sys
-
-from inputs import BadInput, bytes_of, command_words, drop, read_format, tell
+from inputs import BadInput, bytes_of, put, read_format, run_command, tell
 from library import Library, Refused
 from shown import counted
 from values import KIND, check_kind, pack_row
 
-USAGE = "usage: line [OPTION ...] FORMAT [KIND=VALUE ...], or line --help\n"
+USAGE = "usage: line [OPTION ...] FORMAT [KIND=VALUE ...], or line --help"
 
 HELP = USAGE + """
+
 Prints a line of a sheet: the values in the format's places. docs/MANUAL.md has the format language.
 
   --pieces             prints a table of the line's pieces: part of the format, bytes from and to, text, and what %d %x %o %a read back as
@@ -23,21 +22,25 @@ Prints a line of a sheet: the values in the format's places. docs/MANUAL.md has 
 
 Kinds of values, at most 64 of them:
 
-  int8= int16= int32= int64=   a whole number, decimal or 0x.. with a sign in front, in the kind's range; or null
+  int8= int16= int32= int64=   a whole number, decimal or 0x.., with a sign in front or not, in the kind's range; or null
   f64=    decimal, hexadecimal as 0x1.8p3, nan, inf, -inf, or the 64 bits as bits:0x7ff8000000000000
   bool=   true, false or null
   text=   the rest of the word, which may be empty or hold =; all texts together at most 32,768 bytes
+  time=   date and time in UTC as 2026-11-15T12:30Z or 2026-11-15T12:30:00.25Z, up to nine digits of a second; or nanoseconds since 1970, a whole number
 
-The first line of a --csv file names columns and kinds, gate:int8,open:bool,name:text; each further line is a row. An empty place is null for
-integers and Booleans, the empty text for texts; an empty line is no row. A row that is not printed is told with its line on standard error; the
-others are printed. Rows are read and printed some 1,000 at a time.
+The first line of a --csv file names columns and kinds, gate:int8,reply:time,name:text; each further line is a row. An empty place is null for
+integers and Booleans, the empty text for texts, and not taken for floats and times; spaces belong to the value; text with commas stands in double
+quotes; an empty line is no row. A row that is not printed is told with its line on standard error; the others are printed. Rows of a pipe are
+printed when they come.
 
-Exit status: 0 printed, 1 refused (with the number, the place and the cure on standard error), 2 input that is not understood.
+Exit status: 0 printed, 1 refused (with the number, the place and the cure on standard error), 2 input that is not understood or an output that cannot be
+written, 130 interrupted. A reader of the output that has gone is no error.
 
 Examples:
 
   line 'gate %d at %,d mm' int8=7 int32=1234567
   line --pieces '%08x|%.3a' int32=-5 f64=3.14159
+  line '%tF %<tT gate %d' time=2026-11-15T12:30:00Z int8=7
   line --check int8,text 'gate %d %s'
   line --csv log.csv --column 2 'gate %d at %,d mm'
 """
@@ -58,6 +61,8 @@ def split_words(words):
         if word == "--":
             rest += words
             break
+        if name in options:
+            raise BadInput(f"{name}: given twice")
         if not word.startswith("--"):
             rest.append(word)
         elif word in FLAGS:
@@ -94,6 +99,8 @@ def kinds_of(word):
     """The kind bytes of names separated by commas; none for an empty word."""
     names = [name.strip() for name in word.split(",")] if word else []
     for name in names:
+        if not name:
+            raise BadInput(f"--check {word}: a kind is missing beside a comma")
         check_kind(name)
     return bytes(KIND[name] for name in names)
 
@@ -137,8 +144,7 @@ def run(words):
     """Does what the words say; the exit status."""
     options, rest = split_words(words)
     if "--help" in options:
-        sys.stdout.write(HELP)
-        sys.stdout.flush()
+        put(HELP.encode())
         return 0
     if "--format-file" in options:
         form = read_format(options["--format-file"])
@@ -151,8 +157,7 @@ def run(words):
     try:
         if "--csv" in options:
             return print_log(form, options["--csv"], column)
-        sys.stdout.buffer.write(answer(options, form, rest, column))
-        sys.stdout.flush()
+        put(answer(options, form, rest, column))
         return 0
     except Refused as refused:
         from refusals import explained
@@ -161,22 +166,4 @@ def run(words):
 
 
 def main():
-    words = command_words()
-    try:
-        if sys.stdout is None:
-            raise BadInput("standard output is closed")
-        return run(words)
-    except BadInput as error:
-        tell("line", error)
-        if not words:
-            sys.stderr.write(USAGE)
-        return 2
-    except BrokenPipeError:
-        drop(sys.stdout)
-        return 0
-    except OSError as error:
-        drop(sys.stdout)
-        tell("line", f"the output cannot be written: {error.strerror}")
-        return 2
-    except KeyboardInterrupt:
-        return 130
+    return run_command("line", USAGE, run)

@@ -1,21 +1,14 @@
 """The C library of panel/panel.h from Python; proved and built first where that has not been done."""
 
 import ctypes
-import fcntl
 import os
-import re
-import shutil
-import subprocess
-import time
 
-from inputs import BadInput, tell
-from progress import Progress
+from inputs import BadInput
 
 ROOT = os.path.dirname(os.path.dirname(os.path.dirname(os.path.realpath(__file__))))
 SHARED = os.path.join(ROOT, "target", "panel", "libpanel.so")
 
 MOST_OUTPUT = 1 << 26  # what is lent at most for a line; a longer text is refused by the library with 17
-ENDS_BYTES = 4 * 512  # no format has more pieces
 FULL = 17  # the refusal of a text that does not fit
 
 
@@ -25,6 +18,11 @@ class Checked(ctypes.Structure):
 
 class Printed(ctypes.Structure):
     _fields_ = [(name, ctypes.c_uint64) for name in ("number", "place", "length", "pieces")]
+
+
+class Place(ctypes.Structure):
+    """Where the printing of rows stands: the row that is next, where it lies, and how many bytes of the output are used."""
+    _fields_ = [(name, ctypes.c_uint64) for name in ("row", "at", "used")]
 
 
 class Refused(Exception):
@@ -38,7 +36,7 @@ class Refused(Exception):
 def newest_source():
     """When the code of the library was last changed."""
     crates = os.path.join(ROOT, "crates")
-    newest = os.stat(os.path.join(ROOT, "crates.txt")).st_mtime
+    newest = max(os.stat(os.path.join(ROOT, name)).st_mtime for name in ("crates.txt", "tools/crew/rows.c"))
     for crate in os.scandir(crates):
         folder = os.path.join(crate.path, "src")
         if os.path.isdir(folder):
@@ -53,74 +51,14 @@ def why_not_built():
     return "" if os.stat(SHARED).st_mtime >= newest_source() else "is older than its source"
 
 
-def crates_to_prove():
-    """How many crates the library is made of."""
-    with open(os.path.join(ROOT, "crates.txt"), encoding="utf-8") as file:
-        needs = next(line for line in file if line.startswith("panel:"))
-    return len([name for name in needs.split()[1:] if os.path.isdir(os.path.join(ROOT, "crates", name))]) + 1
-
-
-def run_step(words, on_line):
-    """Runs a command of the repository; `on_line` sees each line that it says."""
-    said = []
-    try:
-        with subprocess.Popen(words, cwd=ROOT, stdout=subprocess.PIPE, stderr=subprocess.STDOUT, text=True, errors="replace") as process:
-            for line in process.stdout:
-                said.append(line.rstrip())
-                on_line(line)
-    except OSError as error:
-        raise BadInput(f"the library is not built: {words[0]}: {error.strerror}") from error
-    if process.returncode != 0:
-        raise BadInput(f"the library could not be built; `{' '.join(words)}` said", said[-12:])
-
-
-def build(why):
-    """Proves and builds the library, and says how far it is."""
-    for tool in ("rt", "gcc"):
-        if not shutil.which(tool):
-            raise BadInput(f"the library {why}, and `{tool}` is not on this machine to build it")
-    tell("line", f"the library {why}: proving and building it, which takes some minutes")
-    total = crates_to_prove()
-    proved = set()
-    progress = Progress()
-
-    def on_line(line):
-        found = re.match(r"rt: ([a-z0-9_]+) proved", line)
-        if found:
-            proved.add(found.group(1))
-            last = "; now panel, which is compiled too" if len(proved) == total - 1 else ""
-            progress.show(f"line: proved {len(proved)} of {total}, {found.group(1)}; {time.monotonic() - progress.begun:.0f} s{last}")
-
-    try:
-        run_step(["rt", "staticlib", "panel"], on_line)
-        run_step(["panel/shared.sh"], lambda line: None)
-    finally:
-        progress.end()
-    tell("line", "the library is built")
-
-
-def build_if_needed():
-    """Builds the library where it is missing or old. Of calls at the same time one builds, and the others wait for it."""
-    if not why_not_built():
-        return
-    os.makedirs(os.path.dirname(SHARED), exist_ok=True)
-    with open(os.path.join(os.path.dirname(SHARED), "lock"), "w", encoding="utf-8") as lock:
-        try:
-            fcntl.flock(lock, fcntl.LOCK_EX | fcntl.LOCK_NB)
-        except BlockingIOError:
-            tell("line", "another call is building the library; waiting for it")
-            fcntl.flock(lock, fcntl.LOCK_EX)
-        why = why_not_built()
-        if why:
-            build(why)
-
-
 class Library:
-    """The three functions."""
+    """The three functions, and the loop over rows of a log."""
 
     def __init__(self):
         try:
-            build_if_needed()
+            if why_not_built():
+                from building import build_once  # only here: it brings much along
+                build_once()
             shared = ctypes.CDLL(SHARED)
             self.find_functions(shared)
         except (OSError, AttributeError) as error:
@@ -131,6 +69,7 @@ class Library:
         self.panel_check = self.function(shared.panel_check, Checked, [lent, length] * 2)
         self.panel_measure = self.function(shared.panel_measure, Printed, [lent, length] * 2)
         self.panel_print = self.function(shared.panel_print, Printed, [lent, length] * 2 + [room, length] * 2)
+        self.rows_print = self.function(shared.rows_print, Printed, [lent, length, lent, room, length, room, length, length, ctypes.POINTER(Place)])
 
     @staticmethod
     def function(found, answer, lent):
@@ -160,3 +99,8 @@ class Library:
         if answer.number:
             raise Refused(answer)
         return out.raw[:answer.length], [int.from_bytes(ends[k:k + 4], "little") for k in range(0, len(ends), 4)]
+
+    def print_rows(self, form, rows, lengths, room, column, place):
+        """Prints rows, which lie end to end, from a place on, as tools/crew/rows.c says; the answer is that of the row at which it stopped."""
+        lengths_at = lengths.buffer_info()[0]
+        return self.rows_print(form, len(form), rows, lengths_at, len(lengths), ctypes.addressof(room), len(room), column, place)

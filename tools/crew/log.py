@@ -13,7 +13,8 @@ from refusals import in_one_line
 from shown import counted
 from values import KIND, Rows, check_kind, parse
 
-ZERO = dict.fromkeys(KIND, "0") | {"bool": "false", "text": ""}  # a value of each kind, and a character
+ZERO = dict.fromkeys(KIND, "0") | {"bool": "false", "text": ""}  # a value of each kind: of integers a character, of times a whole second
+NULLS = ("null", "")  # an empty cell of a kind that can be null is null
 AFTER, AGAIN = 1.0, 0.2  # seconds until progress is shown, and until it is shown again
 
 
@@ -34,19 +35,24 @@ class Log:
 
     def __init__(self, name):
         self.records = Records(name)
-        numbers, records = self.records.some() or ([], [])
-        if not records:
-            raise BadInput(f"{self.records.name}: no columns; the first line names them, such as gate:int8,name:text")
+        numbers, records = self.first_records()
         try:
             if isinstance(records[0], BadInput):
                 raise records[0]
             self.names, self.kinds = columns_of(records[0])
-            self.rows = Rows(self.kinds)
+            self.rows = Rows(self.kinds, NULLS)
         except BadInput as error:
             raise BadInput(f"{self.records.name}:{numbers[0]}: {error}") from error
         self.left = numbers[1:], records[1:]
         self.printed = self.unread = 0
         self.refused = collections.Counter()
+
+    def first_records(self):
+        """The records up to the first that is there; empty lines before it are none."""
+        while (some := self.records.some()) is not None:
+            if some[1]:
+                return some
+        raise BadInput(f"{self.records.name}: no columns; the first line names them, such as gate:int8,name:text")
 
     def print(self, library, form, column):
         """Prints every row that can be printed, and tells of every other. A format that is refused for every row of these kinds is refused first."""
@@ -56,14 +62,24 @@ class Log:
             raise BadInput(f"--column {column}: the format has {counted(pieces, 'piece')}")
         self.output = Output(library, form, column)
         self.progress, self.look_at = Progress(), AFTER
+        try:
+            self.print_all()
+        except (BadInput, KeyboardInterrupt):  # the file cannot be read on, or the run is interrupted
+            self.output.write()
+            raise
+        finally:  # what is told of an output that cannot be written stands in a line of its own
+            self.progress.end()
+        tell("line", self.summary())
+
+    def print_all(self):
         some = self.left
         while some is not None:
             self.print_records(*some)
+            if not self.records.is_file:  # the next rows of a pipe may be long in coming
+                self.output.write()
             self.show_progress()
             some = self.records.some()
         self.output.write()
-        self.progress.end()
-        tell("line", self.summary())
 
     def print_records(self, numbers, records):
         """Prints records, given with their lines' numbers; half by half where one of them is not understood."""
@@ -80,22 +96,22 @@ class Log:
                 self.unread += 1
                 self.tell(numbers[0], error)
             return
-        self.printed += len(rows)
-        for k, refused in self.output.print(rows):
+        self.printed += len(records)
+        for k, refused in self.output.print(*rows):
             self.printed -= 1
             self.refused[refused.number] += 1
             self.tell(numbers[k], in_one_line(refused))
 
     def pack(self, records):
-        """The rows of records' cells; an empty cell of a kind that can be null is null."""
+        """The rows of records' cells."""
         if isinstance(records[0], BadInput):  # which comes alone
             raise records[0]
-        if set(map(len, records)) != {len(self.kinds)}:
+        try:
+            columns = list(zip(*records, strict=True))
+        except ValueError:
+            columns = []
+        if len(columns) != len(self.kinds):
             raise BadInput(f"{counted(len(records[0]), 'value')} for {counted(len(self.kinds), 'column')}")
-        columns = list(zip(*records))
-        for k, kind in enumerate(self.kinds):
-            if kind not in ("f64", "text") and "" in columns[k]:
-                columns[k] = [cell or "null" for cell in columns[k]]
         try:
             return self.rows.pack(columns, len(records))
         except BadInput as error:
@@ -105,7 +121,7 @@ class Log:
         """The name of the first column that cannot be taken, with a colon; nothing where no single column is at fault."""
         for name, kind, words in zip(self.names, self.kinds, columns):
             try:
-                parse(kind, words)
+                parse(kind, words, NULLS)
             except BadInput:
                 return f"{name}: "
         return ""

@@ -83,10 +83,16 @@ def letter_of(part):
     return "" if part[-2:-1] in (b"t", b"T") else chr(part[-1])
 
 
-def is_cut(part):
-    """Whether an element of a float has a precision of so few digits that its text may be rounded."""
+def digits_of(part):
+    """The digits to which an element of a float is rounded by its precision, of which 0 counts as 1; 0 where it is not rounded."""
     found = PRECISION.search(part)
-    return bool(found) and int(found[1][:4]) < ALL_DIGITS
+    digits = max(1, int(found[1][:4])) if found else ALL_DIGITS
+    return digits if digits < ALL_DIGITS else 0
+
+
+def is_rounded(part, reading, number):
+    """Whether an element of a float has been rounded, and to the nearest."""
+    return digits_of(part) > 0 and number.size > 0 and reading.is_nearest(number, digits_of(part))
 
 
 def compared(part, text, value):
@@ -102,7 +108,7 @@ def compared(part, text, value):
         return str(reading), shown, "same"
     if letter in "xXo" and number.negative and reading.size + number.size == 1 << INTEGERS[value.kind]:
         return str(reading), shown, f"same bits: {reading} - 2^{INTEGERS[value.kind]}"
-    return str(reading), shown, "rounded" if letter in "aA" and is_cut(part) and reading.is_nearest(number) else DIFFERENT
+    return str(reading), shown, "rounded" if letter in "aA" and is_rounded(part, reading, number) else DIFFERENT
 
 
 def table_of_pieces(library, form, row):

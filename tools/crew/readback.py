@@ -10,18 +10,21 @@ FLOAT = re.compile(rb"(-?)0x0*([0-9a-f]+)\.([0-9a-f]+)p(-?[0-9]+)")
 
 
 class Reading:
-    """What a column denotes: a sign, which zero has too, and a size. Of a float also the power of two that its last digit counts, and whether that digit is even."""
+    """What a column denotes: a sign, which zero has too, and a size. Of a float's text also how many digits stand behind the point."""
 
-    def __init__(self, negative, size, last=0, even=True):
-        self.negative, self.size, self.last, self.even = negative, Fraction(size), last, even
+    def __init__(self, negative, size, digits=0):
+        self.negative, self.size, self.digits = negative, Fraction(size), digits
 
     def is_same(self, other):
         return (self.negative, self.size) == (other.negative, other.size)
 
-    def is_nearest(self, number):
-        """Whether no other number of this form lies nearer to a number: half of what the last digit counts, an even digit where that is met."""
-        away, half = abs(self.size - number.size), Fraction(2) ** (self.last - 1)
-        return self.negative == number.negative and (away < half or away == half and self.even)
+    def is_nearest(self, number, digits):
+        """Whether this is the nearest to a float, which is not zero, of the numbers 1.d..d times a power of two with so many hexadecimal digits; of two
+        the one with an even last digit. Between two powers of two they lie evenly, and the power above is the last of them."""
+        size = number.size
+        power = size.numerator.bit_length() - size.denominator.bit_length()  # of the power of two below; the denominator is a power of two
+        last = Fraction(2) ** (power - 4 * digits)
+        return (self.negative, self.size, self.digits) == (number.negative, round(size / last) * last, digits)
 
     def __str__(self):
         sign = "-" if self.negative else ""
@@ -45,5 +48,5 @@ def read_back(letter, piece):
         sign, whole, behind, power = found.groups()
         digits = behind.rstrip(b"0")  # zeros at the end count nothing
         size = int(whole + digits, 16) * Fraction(2) ** (int(power) - 4 * len(digits))
-        return Reading(bool(sign), size, int(power) - 4 * len(behind), int(behind[-1:], 16) % 2 == 0)
+        return Reading(bool(sign), size, len(behind))
     return None

@@ -1,35 +1,44 @@
-import java.io.BufferedInputStream;
-import java.io.BufferedOutputStream;
-import java.io.ByteArrayOutputStream;
 import java.io.IOException;
-import java.io.InputStream;
-import java.io.OutputStream;
 import java.math.BigInteger;
 import java.nio.charset.StandardCharsets;
+import java.time.Instant;
+import java.time.ZoneId;
+import java.time.ZonedDateTime;
 import java.util.ArrayList;
+import java.util.Arrays;
 import java.util.Formatter;
 import java.util.List;
 import java.util.Locale;
 
 /**
- * Answers formats with java.util.Formatter under Locale.ROOT, one request and one answer a line.
+ * Answers formats with java.util.Formatter under Locale.ENGLISH, one request and one answer a line. (Under Locale.ROOT, Java 17 prints short names
+ * of months and days for the long ones.)
  *
  * A request is the format and its values, with a tab between them. An answer is '=' and the text, or '!' and the simple name of the exception.
  * Bytes of the format and of texts outside 0x20 to 0x7e, and the backslash, stand as \HH. A value is a letter and what it names:
  * b s i l and a decimal number (Byte, Short, Integer, Long), g and a decimal number (BigInteger), d and 16 hexadecimal digits (Double by its
  * bits), z and t or f (Boolean), x and a text in UTF-8 (String), y and any bytes (String with one character for each byte, those from 0x80 on
- * as U+E080 to U+E0FF, which have no capitals), n (null).
+ * as U+E080 to U+E0FF, which have no capitals), u and a decimal number (ZonedDateTime, nanoseconds since 1970 in the zone named UTC, whose name
+ * %tZ and %tc print; that of ZoneOffset.UTC is Z), n (null).
  */
 public final class Answers {
-    private final InputStream in = new BufferedInputStream(System.in, 1 << 16);
-    private final OutputStream out = new BufferedOutputStream(System.out, 1 << 16);
-    private final ByteArrayOutputStream field = new ByteArrayOutputStream();
+    private static final ZoneId UTC = ZoneId.of("UTC");
+    private static final long SECOND = 1_000_000_000;
+
+    // Arrays of our own: each byte through a stream takes a lock, which costs more than the byte.
+    private final byte[] input = new byte[1 << 16];
+    private int inputAt = 0;
+    private int inputEnd = 0;
+    private final byte[] output = new byte[1 << 16];
+    private int outputEnd = 0;
+    private byte[] field = new byte[1 << 12];
+    private int fieldEnd = 0;
 
     public static void main(String[] arguments) throws IOException {
         Answers answers = new Answers();
         while (answers.answerLine()) {
         }
-        answers.out.flush();
+        answers.flush();
     }
 
     /** Answers the next line; false at the end of the input. */
@@ -38,7 +47,7 @@ public final class Answers {
         if (end < 0) {
             return false;
         }
-        String format = field.toString(StandardCharsets.UTF_8);
+        String format = fieldText();
         List<Object> values = new ArrayList<>();
         while (end == '\t') {
             end = readField();
@@ -46,37 +55,48 @@ public final class Answers {
         }
         StringBuilder text = new StringBuilder();
         try {
-            new Formatter(text, Locale.ROOT).format(format, values.toArray());
-            out.write('=');
+            new Formatter(text, Locale.ENGLISH).format(format, values.toArray());
+            put('=');
             write(text.toString().getBytes(StandardCharsets.UTF_8));
         } catch (RuntimeException refusal) {
-            out.write('!');
+            put('!');
             write(refusal.getClass().getSimpleName().getBytes(StandardCharsets.UTF_8));
         }
-        out.write('\n');
+        put('\n');
         return true;
     }
 
     /** Reads one field into {@code field} and gives the byte behind it, or -1 at the end of the input. */
     private int readField() throws IOException {
-        field.reset();
+        fieldEnd = 0;
         while (true) {
-            int next = in.read();
+            int next = read();
             switch (next) {
                 case -1, '\t', '\n' -> {
                     return next;
                 }
                 case '\\' -> {
-                    int high = Character.digit(in.read(), 16);
-                    field.write(16 * high + Character.digit(in.read(), 16));
+                    int high = Character.digit(read(), 16);
+                    add(16 * high + Character.digit(read(), 16));
                 }
-                default -> field.write(next);
+                default -> add(next);
             }
         }
     }
 
+    private void add(int one) {
+        if (fieldEnd == field.length) {
+            field = Arrays.copyOf(field, 2 * fieldEnd);
+        }
+        field[fieldEnd++] = (byte) one;
+    }
+
+    private String fieldText() {
+        return new String(field, 0, fieldEnd, StandardCharsets.UTF_8);
+    }
+
     private Object value() {
-        String whole = field.toString(StandardCharsets.UTF_8);
+        String whole = fieldText();
         String rest = whole.substring(1);
         return switch (whole.charAt(0)) {
             case 'b' -> Byte.valueOf(rest);
@@ -88,29 +108,59 @@ public final class Answers {
             case 'z' -> rest.equals("t");
             case 'x' -> rest;
             case 'y' -> bytesAsCharacters();
+            case 'u' -> timestamp(Long.parseLong(rest));
             case 'n' -> null;
             default -> throw new IllegalStateException(whole);
         };
     }
 
+    private static ZonedDateTime timestamp(long nanos) {
+        return ZonedDateTime.ofInstant(Instant.ofEpochSecond(Math.floorDiv(nanos, SECOND), Math.floorMod(nanos, SECOND)), UTC);
+    }
+
     private String bytesAsCharacters() {
-        byte[] bytes = field.toByteArray();
         StringBuilder text = new StringBuilder();
-        for (int i = 1; i < bytes.length; i++) {
-            text.append(bytes[i] >= 0 ? (char) bytes[i] : (char) (0xe000 + (bytes[i] & 0xff)));
+        for (int i = 1; i < fieldEnd; i++) {
+            text.append(field[i] >= 0 ? (char) field[i] : (char) (0xe000 + (field[i] & 0xff)));
         }
         return text.toString();
     }
 
-    private void write(byte[] bytes) throws IOException {
+    private void write(byte[] bytes) {
         for (byte one : bytes) {
             if (one >= 0x20 && one <= 0x7e && one != '\\') {
-                out.write(one);
+                put(one);
             } else {
-                out.write('\\');
-                out.write(Character.forDigit(one >> 4 & 15, 16));
-                out.write(Character.forDigit(one & 15, 16));
+                put('\\');
+                put(Character.forDigit(one >> 4 & 15, 16));
+                put(Character.forDigit(one & 15, 16));
             }
         }
+    }
+
+    /** The next byte of the input, or -1 at its end. */
+    private int read() throws IOException {
+        if (inputAt == inputEnd) {
+            inputAt = 0;
+            inputEnd = System.in.read(input);
+            if (inputEnd <= 0) {
+                inputEnd = 0;
+                return -1;
+            }
+        }
+        return input[inputAt++] & 0xff;
+    }
+
+    private void put(int one) {
+        if (outputEnd == output.length) {
+            flush();
+        }
+        output[outputEnd++] = (byte) one;
+    }
+
+    private void flush() {
+        System.out.write(output, 0, outputEnd);
+        System.out.flush();
+        outputEnd = 0;
     }
 }

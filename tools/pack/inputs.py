@@ -1,4 +1,4 @@
-"""What the commands take: the words of a command line, a format's file; and how they tell what they cannot take."""
+"""What the commands take: the words of a command line, a format's file; how they write, and how they tell what they cannot take."""
 
 import os
 import sys
@@ -44,6 +44,36 @@ def read_format(name):
             return file.read()
     except OSError as error:
         raise BadInput(f"{name}: {error.strerror}") from error
+
+
+def run_command(program, usage, run):
+    """Runs a command on the words of its line; the exit status. What it cannot take or write is told."""
+    words = command_words()
+    try:
+        if sys.stdout is None:
+            raise BadInput("standard output is closed")
+        return run(words)
+    except BadInput as error:
+        tell(program, error if words else f"{error}\n{usage}")
+        return 2
+    except BrokenPipeError:
+        return 0
+    except OSError as error:
+        tell(program, f"the output cannot be written: {error.strerror}")
+        return 2
+    except KeyboardInterrupt:
+        return 130
+
+
+def put(data):
+    """Bytes on standard output, all of them. A write may take only some, and where the output is set not to wait (O_NONBLOCK) none: then this waits."""
+    out, data = sys.stdout.fileno(), memoryview(data)
+    while data:
+        try:
+            data = data[os.write(out, data):]
+        except BlockingIOError:
+            from select import select  # only here: it is hardly ever needed
+            select([], [out], [])
 
 
 def tell(program, message):

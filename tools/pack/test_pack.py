@@ -12,7 +12,7 @@ sys.path.insert(0, HERE)
 
 import pack  # noqa: E402
 from inputs import BadInput  # noqa: E402
-from values import pack_row  # noqa: E402
+from values import pack_row, parse  # noqa: E402
 
 
 def row(*words):
@@ -61,7 +61,8 @@ class Integers(unittest.TestCase):
 
     def test_out_of_range(self):
         for word in (b"int8=128", b"int8=-129", b"int8=0xff", b"int16=32768", b"int16=-32769", b"int32=2147483648", b"int32=-2147483649",
-                     b"int64=9223372036854775808", b"int64=-9223372036854775809", b"int64=" + b"9" * 5000):
+                     b"int64=9223372036854775808", b"int64=-9223372036854775809", b"int64=" + b"9" * 5000,
+                     b"int64=10000000000000000000", b"int64=10000000000000000000000", b"int64=-" + b"1" + b"0" * 5000):
             with self.assertRaisesRegex(BadInput, "out of range"):
                 row(word)
 
@@ -133,6 +134,81 @@ class Booleans(unittest.TestCase):
         for word in (b"bool=", b"bool=1", b"bool=True"):
             with self.assertRaisesRegex(BadInput, "not true, false or null"):
                 row(word)
+
+
+def time_row(value):
+    return number_row(8, value.to_bytes(8, "little", signed=True))
+
+
+SECOND = 10**9
+
+
+class Times(unittest.TestCase):
+    def test_moments(self):
+        for word, seconds, rest in ((b"1970-01-01T00:00:00Z", 0, 0), (b"2026-11-15T12:30:00.25Z", 1794745800, 250_000_000),
+                                    (b"2026-11-15T12:30Z", 1794745800, 0), (b"2026-11-15 07:05:09.025Z", 1794726309, 25_000_000),
+                                    (b"2000-02-29T00:00Z", 951782400, 0), (b"1900-03-01T00:00:00Z", -2203891200, 0),
+                                    (b"1700-02-28T23:59:59Z", -8515238401, 0), (b"2200-03-01T00:00:00.000000001Z", 7263216000, 1)):
+            self.assertEqual(row(b"time=" + word), time_row(seconds * SECOND + rest))
+
+    def test_every_digit_of_a_second_counts(self):
+        for digits in range(1, 10):
+            fraction = "987654321"[:digits]
+            self.assertEqual(row(f"time=1970-01-01T00:00:00.{fraction}Z".encode()), time_row(int(fraction) * 10 ** (9 - digits)))
+        self.assertEqual(row(b"time=1969-12-31T23:59:59.999999999Z"), time_row(-1))
+        self.assertEqual(row(b"time=9007199254740993"), time_row((1 << 53) + 1))
+
+    def test_numbers(self):
+        for word, value in ((b"0", 0), (b"-1", -1), (b"+007", 7), (b"1794745800250000000", 1794745800250000000), (b"0x10", 16),
+                            (b"-0X8000000000000000", -1 << 63), (b"9223372036854775807", (1 << 63) - 1), (b"-9223372036854775808", -1 << 63)):
+            self.assertEqual(row(b"time=" + word), time_row(value))
+
+    def test_limits(self):
+        self.assertEqual(row(b"time=1677-09-21T00:12:43.145224192Z"), time_row(-1 << 63))
+        self.assertEqual(row(b"time=2262-04-11T23:47:16.854775807Z"), time_row((1 << 63) - 1))
+        for word in (b"1677-09-21T00:12:43.145224191Z", b"2262-04-11T23:47:16.854775808Z", b"0001-01-01T00:00Z", b"9999-12-31T23:59:59Z"):
+            with self.assertRaisesRegex(BadInput, "out of range, which is 1677-09-21T00:12:43.145224192Z to 2262-04-11T23:47:16.854775807Z"):
+                row(b"time=" + word)
+        for word in (b"9223372036854775808", b"-9223372036854775809", b"0x8000000000000000", b"9" * 5000):
+            with self.assertRaisesRegex(BadInput, "out of range, which is -9223372036854775808 to 9223372036854775807"):
+                row(b"time=" + word)
+
+    def test_every_day(self):
+        days = -106650  # 292 years of 365 days, and 70 leap days, up to 1970
+        for year in range(1678, 2262):
+            leap = year % 4 == 0 and year % 100 != 0 or year % 400 == 0
+            for month, length in enumerate((31, 29 if leap else 28, 31, 30, 31, 30, 31, 31, 30, 31, 30, 31), 1):
+                words = [f"{year}-{month:02}-{day:02}T00:00:00Z" for day in range(1, length + 1)]
+                self.assertEqual(parse("time", words), [(days + day) * 86400 * SECOND for day in range(length)])
+                days += length
+                with self.assertRaisesRegex(BadInput, "no such date"):
+                    row(f"time={year}-{month:02}-{length + 1}T00:00Z".encode())
+
+    def test_columns(self):
+        words = ["2026-11-15T12:30:00Z", "-5", "2026-11-15T12:30Z", "0x1f", "2026-11-15 12:30:00.5Z"]
+        self.assertEqual(parse("time", words), [1794745800 * SECOND, -5, 1794745800 * SECOND, 31, 1794745800 * SECOND + SECOND // 2])
+        self.assertEqual(parse("time", words[::2]), [1794745800 * SECOND, 1794745800 * SECOND, 1794745800 * SECOND + SECOND // 2])
+        with self.assertRaisesRegex(BadInput, "^time=2262-04-12T00:00:00Z: out of range"):
+            parse("time", ["2026-11-15T12:30:00Z", "2262-04-12T00:00:00Z"])
+
+    def test_no_moment(self):
+        for why, words in (
+                ("no such date", (b"2026-02-30T00:00Z", b"2026-13-01T00:00Z", b"2026-00-01T00:00Z", b"2100-02-29T00:00:00Z", b"0000-01-01T00:00Z")),
+                ("hours are 00 to 23, minutes 00 to 59", (b"2026-11-15T24:00Z", b"2026-11-15T24:00:00Z", b"2026-11-15T12:60:00.5Z")),
+                ("seconds are 00 to 59", (b"2026-11-15T23:59:60Z", b"2026-11-15T23:59:99.5Z")),
+                ("more than nine digits", (b"2026-11-15T12:30:00.1234567890Z", b"2026-11-15T12:30:00." + b"0" * 5000 + b"Z")),
+                ("Z is missing", (b"2026-11-15T12:30", b"2026-11-15T12:30:00", b"2026-11-15 12:30:00.25")),
+                ("an offset is not taken", (b"2026-11-15T12:30:00+01:00", b"2026-11-15T12:30-0100", b"2026-11-15T12:30:00.5+00")),
+                ("the time of day is missing; for midnight write T00:00Z", (b"2026-11-15", b"2026-11-15Z")),
+                ("only integers and Booleans can be null", (b"null",)),
+                ("not a date and time such as 2026-11-15T12:30:00.25Z", (
+                    b"", b"now", b"Z", b"1e9", b"1.0", b" 0", b"0x", b"2026-11-15t12:30:00z", b"20261115T123000Z", b"2026-11-15T12Z",
+                    b"2026-11-15T12:30:00.Z", b"2026-11-15T12:30.5Z", b"2026-11-15T12:30:00,5Z", b"2026-11-15  12:30Z", b"2026-11-15T12:30Z\n",
+                    b"2026-11-15T12:30:00Z\n", b"12026-11-15T12:30:00Z", b"-026-11-15T12:30:00Z", b"2026-1-15T12:30:00Z", b"2026-11-15T12:30:00ZZ",
+                    "\u0662026-11-15T12:30:00Z".encode(), b"\xff026-11-15T12:30:00Z"))):
+            for word in words:
+                with self.assertRaisesRegex(BadInput, why):
+                    row(b"time=" + word)
 
 
 class Texts(unittest.TestCase):
@@ -246,6 +322,7 @@ class CommandLine(unittest.TestCase):
         self.refused(b"int7: no such kind", "%d", "int7=1")
         self.refused(b"int8=300: out of range, which is -128 to 127", "%d", "int8=300")
         self.refused(b"f64=null: only integers and Booleans can be null", "%a", "f64=null")
+        self.refused(b"time=2026-11-15T12:30: Z is missing at the end; times are in UTC", "%tH", "time=2026-11-15T12:30")
         self.refused(b"65 values: more than 64", "%d", *["int8=1"] * 65)
         self.refused(b"text of 32769 bytes in all", "%s", "text=" + "a" * 32769)
         self.refused(b"format of 65536 bytes", "a" * 65536)

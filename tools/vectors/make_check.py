@@ -32,12 +32,12 @@ PRECISION = re.compile(rb"\.([0-9]*)|")
 
 INTEGERS = {1, 2, 3, 4}
 NUMBERS = INTEGERS | {5}
-ALL_KINDS = {1, 2, 3, 4, 5, 6, 7}
+ALL_KINDS = {1, 2, 3, 4, 5, 6, 7, 8}
 FIT = {
     "b": {6},
     "c": INTEGERS, "d": INTEGERS, "o": INTEGERS, "x": INTEGERS,
     "e": NUMBERS, "f": NUMBERS, "g": NUMBERS, "a": NUMBERS,
-    "s": ALL_KINDS, "h": ALL_KINDS,
+    "s": ALL_KINDS, "h": ALL_KINDS, "t": {8},
 }
 LETTERS = "bBhHsScCdoxXeEfgGaA"
 TIME_LETTERS = "HIklMSLNpzZsQBbAaCYyjmdeRTrDFc" + "h"
@@ -77,8 +77,8 @@ def element_end(fmt, at, kind, place):
         time = fmt[at + 1:at + 2].decode("latin-1")
         if not time or time not in TIME_LETTERS:
             raise Refusal(11, place)
-        raise Refusal(12, place)
-    if not letter or letter not in LETTERS:
+        at += 1
+    elif not letter or letter not in LETTERS:
         raise Refusal(10, place)
     if kind not in FIT[letter.lower()]:
         raise Refusal(12, place)
@@ -321,6 +321,20 @@ def readings_on_specifiers(r):
     r.named("%+ s", [7], "no", 9, 0)
     r.named("%+ tH", [4], "no", 9, 0)
     r.named("%-0tH", [4], "no", 8, 0)
+    # E1: kind 8 fits t, T, s and h, and what reading refuses stays refused.
+    r.named("%+ tH", [8], "no", 9, 0)
+    r.named("%-0TH", [8], "no", 8, 0)
+    r.named("%2147483648tH", [8], "no", 6, 0)
+    r.named("x%tq", [8], "no", 11, 1)
+    r.named("x%T", [8], "no", 11, 1)
+    r.named("%-20.3tF %<TB%1$s%1$h", [8], "ok", 5, 1)
+    for letter in "bBcCdoxXeEfgGaA":
+        r.named("%" + letter, [8], "no", 12, 0)
+    for letter in "sShH":
+        r.named("%" + letter, [8], "ok", 1, 1)
+    for letter in TIME_LETTERS:
+        r.named("%t" + letter, [8], "ok", 1, 1)
+        r.named("%T" + letter, [8], "ok", 1, 1)
 
 
 def readings_on_wholes(r):
@@ -352,8 +366,8 @@ def readings_on_wholes(r):
     # 20, 21: 1, 2 and 3 before all else, over the whole format.
     r.named(b"%q\xff", [3], "no", 2, 0)
     r.named(b"%$\xc3", [0], "no", 2, 0)
-    r.named(b"\xff", [8] * 65, "no", 2, 0)
-    r.named("%q", [8], "no", 3, 0)
+    r.named(b"\xff", [9] * 65, "no", 2, 0)
+    r.named("%q", [9], "no", 3, 0)
     r.named("%$", [3] * 65, "no", 3, 0)
     r.named(b"\xff" * 4097, [], "no", 1, 0)
 
@@ -363,7 +377,7 @@ def readings_on_wholes(r):
 
 def letters(r):
     for letter in LETTERS:
-        for kind in range(1, 8):
+        for kind in range(1, 9):
             r.add("%" + letter, [kind])
             r.add("a%-9.3" + letter, [kind])
     for byte in range(128):
@@ -371,6 +385,7 @@ def letters(r):
     for byte in range(32, 127):
         r.add(b"%1$" + bytes([byte]) + b"d", [3])
         r.add(b"%t" + bytes([byte]), [4])
+        r.add(b"%t" + bytes([byte]), [8])
         r.add(b"%T" + bytes([byte]), [6])
         r.add(b"%d%<" + bytes([byte]), [6 if byte % 2 else 1])
     for letter in TIME_LETTERS:
@@ -470,14 +485,14 @@ def kinds(r):
         r.add("%63$d", [4] * n)
         r.add("%64$d", [4] * n)
         r.add("%65$d", [4] * n)
-    for bad in (0, 8, 9, 12, 127, 128, 129, 132, 133, 134, 135, 136, 255):
+    for bad in (0, 9, 12, 127, 128, 129, 132, 133, 134, 135, 136, 255):
         r.add("", [bad])
         r.add("%d", [bad])
         r.add("%d", [3, bad])
         r.add("%d", [3] * 63 + [bad])
         r.add("%$", [3] * 64 + [bad])
         r.add("%d", [bad] + [3] * 63)
-    for kind in range(1, 8):
+    for kind in range(1, 9):
         r.add("%64$s", [kind] * 64)
         r.add("%2$d%1$b", [6, kind])
 

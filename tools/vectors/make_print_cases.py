@@ -10,6 +10,8 @@ import os
 import struct
 import sys
 
+from print_dates import dates
+
 HERE = os.path.dirname(os.path.abspath(__file__))
 OUT = os.path.join(HERE, "..", "..", "crates", "vectors", "data", "print.vec")
 
@@ -408,7 +410,7 @@ def bad_rows(r):
     r.no("", good[:5], 14)
     r.no("", good[:-1], 14)
     r.no("", good + b"\x00", 14)
-    for kind in (0, 8, 127, 128, 133, 135, 136, 137, 255):
+    for kind in (0, 9, 127, 128, 133, 135, 136, 137, 255):
         r.no("", row([(kind, bytes(8))]), 14)
     for one in (i8(128), i8(-129), i8(255), i16(32768), i16(-32769), i32(2 ** 31), i32(-2 ** 31 - 1), boolean(2), boolean(-1)):
         r.no("", row([one]), 14)
@@ -428,8 +430,8 @@ def bad_rows(r):
 
 def main():
     r = Records()
-    for group in (table, published, places, room, nulls, decimals, bases, characters, booleans, texts, floats, rounded, fits, formats, good_rows,
-                  bad_rows):
+    for group in (table, published, places, room, nulls, decimals, bases, characters, booleans, texts, floats, rounded, fits, dates, formats,
+                  good_rows, bad_rows):
         group(r)
     data = b"".join(r.all)
     if len(data) > ROOM:

@@ -13,7 +13,7 @@ use Rattle.binary64.specs.HexFloat.{shortest, rounded, hexFloatOf}
 use Rattle.binary64.specs.Rounding.{nearestTo, keptDigits}
 use Rattle.hexfloats.specs.Texts.{exponentText, hexFloatText}
 use Rattle.utf8.specs.Utf8.{leadOf, wellFormedFrom, wellFormed}
-use Rattle.letters.specs.Letters.{smallOf, capitalOf}
+use Rattle.letters.specs.Letters.{timeOf, smallOf, capitalOf}
 use Rattle.conversions.specs.Kinds.{kindOf, isIntegerKind, integerForm, fitsKind, printsAs}
 use Rattle.flags.specs.Flags.{leadingFlags, firstClash, flagsAt}
 use Rattle.specifiers.specs.Specifier.{precisionAt, letterAt, partsAt, specifierAt}
@@ -24,17 +24,23 @@ use Rattle.parsing.specs.Listed.{placedFrom, endFrom, placed, ended}
 use Rattle.scalars.specs.Scalars.{utf8Of}
 use Rattle.strings.specs.Cut.{capital, backTo, cutLength, cutTo, cased}
 use Rattle.rows.specs.Row.{namedText, entryAt, entriesFrom, isRow}
+use Rattle.calendar.specs.Dates.{isLeap, daysOf, yearLength, dayNumber, countOff, yearDay, dateOf}
+use Rattle.calendar.specs.Moments.{epochDay, sinceYear0, weekdayOf, ordinalOf, momentOf}
+use Rattle.components.specs.Names.{nameOf}
+use Rattle.components.specs.Components.{numberText, clock12, half, signText, nameText, symbolText, symbolsText, componentText, isEarlyFraction}
 use Rattle.elements.specs.Texts.{elementText}
 use Rattle.pieces.specs.PieceTexts.{shownPiece}
 use Rattle.outcomes.specs.Printed.{textsOf, texts, joined, printedText, firstStop, measuredEnd, measured}
-use Rattle.cases.specs.Cases.{cases, ours, secondHolds, allHold}
+use Rattle.cases.specs.Cases.{cases, ours, dates, secondHolds, allHold}
 
-pub theorem-cases : T (allHold cases) × T (allHold ours) × T secondHolds
+pub theorem-cases : T (allHold cases) × T (allHold ours) × T (allHold dates) × T secondHolds
 unfolding mul ofBits toBits digitsIn placesWithin places digits numberFrom numberOf letterOf lettersOf numeral grouped intOf
     leadingDigits numberTaken numberAt paramAt spaces headText tailText framed spare frameOf padded
     negative exponentField fractionField categoryOf scaledBits shortest rounded hexFloatOf exponentText hexFloatText nearestTo keptDigits
     leadOf wellFormedFrom wellFormed smallOf capitalOf kindOf isIntegerKind integerForm fitsKind printsAs
     has leadingFlags firstClash flagsAt precisionAt letterAt partsAt specifierAt textLength indexAt argumentAt elementAt pieceAt placedFrom endFrom placed ended
     capital backTo cutLength cutTo cased utf8Of littleEndian wordAt namedText entryAt entriesFrom isRow
+    timeOf isLeap daysOf yearLength dayNumber countOff yearDay dateOf epochDay sinceYear0 weekdayOf ordinalOf momentOf
+    nameOf numberText clock12 half signText nameText symbolText symbolsText componentText isEarlyFraction
     elementText shownPiece textsOf texts joined printedText firstStop measuredEnd measured
-theorem-cases = (tt, tt, tt)
+theorem-cases = (tt, tt, tt, tt)

@@ -84,6 +84,36 @@ ours =
     ∷ record { format = "%%"; kind = 3; value = 5; area = ""; text = "%" }
     ∷ []
 
+-- Dates (02, E1): each letter of a pattern is seen in one of these, alone or in a composed one; both ends of the halves of a day; a leap day
+-- in a full hundred; the day behind 28 February of a full hundred that is no leap year; the largest timestamp; signs.
+abbrev seconds : ℕ → ℕ
+seconds n = n * 1000000000
+
+abbrev pub dates : List Case
+dates =
+    record { format = "%tc"; kind = 8; value = seconds 1794726309 + 25000000; area = ""; text = "Sun Nov 15 07:05:09 UTC 2026" }
+    ∷ record { format = "%tD"; kind = 8; value = seconds 1794726309 + 25000000; area = ""; text = "11/15/26" }
+    ∷ record { format = "%tr"; kind = 8; value = seconds 1794726309 + 25000000; area = ""; text = "07:05:09 AM" }
+    ∷ record { format = "%tR"; kind = 8; value = seconds 1794726309 + 25000000; area = ""; text = "07:05" }
+    ∷ record { format = "%tk"; kind = 8; value = seconds 1794726309 + 25000000; area = ""; text = "7" }
+    ∷ record { format = "%tL"; kind = 8; value = seconds 1794726309 + 25000000; area = ""; text = "025" }
+    ∷ record { format = "%th"; kind = 8; value = seconds 1794726309 + 25000000; area = ""; text = "Nov" }
+    ∷ record { format = "%tC"; kind = 8; value = seconds 1794726309 + 25000000; area = ""; text = "20" }
+    ∷ record { format = "%TB"; kind = 8; value = seconds 1794726309 + 25000000; area = ""; text = "NOVEMBER" }
+    ∷ record { format = "%tA"; kind = 8; value = seconds 1794726309 + 25000000; area = ""; text = "Sunday" }
+    ∷ record { format = "%tj"; kind = 8; value = seconds 1794726309 + 25000000; area = ""; text = "319" }
+    ∷ record { format = "%te"; kind = 8; value = 0; area = ""; text = "1" }
+    ∷ record { format = "%tl"; kind = 8; value = 0; area = ""; text = "12" }
+    ∷ record { format = "%tr"; kind = 8; value = seconds 43200; area = ""; text = "12:00:00 PM" }
+    ∷ record { format = "%40.1tp"; kind = 8; value = seconds 43199; area = ""; text = "am" }
+    ∷ record { format = "%tz"; kind = 8; value = 0; area = ""; text = "+0000" }
+    ∷ record { format = "%tF"; kind = 8; value = seconds 951782400; area = ""; text = "2000-02-29" }
+    ∷ record { format = "%tc"; kind = 8; value = minus (seconds 2203891200); area = ""; text = "Thu Mar 01 00:00:00 UTC 1900" }
+    ∷ record { format = "%tN"; kind = 8; value = 2 ^ 63 - 1; area = ""; text = "854775807" }
+    ∷ record { format = "%ts"; kind = 8; value = minus (seconds 1); area = ""; text = "-1" }
+    ∷ record { format = "%tQ"; kind = 8; value = minus (seconds 1); area = ""; text = "-1000" }
+    ∷ []
+
 -- That a format of one piece prints, and what.
 abbrev pub prints : Outcome → List ℕ → List ℕ → Bool
 prints (Accepted n k) printed text = eqb k 1 && eqb n (length text) && same printed text

@@ -206,15 +206,15 @@ printed-parts {s} {row} room slots {parts} b w x h =
     few : leb (length parts) slots ≡ true
     few = elim (decLt slots (length parts)) [ yes l ↦ absurd (h (K.more-pieces l)) | no l ↦ le-leb (length parts) slots (omega arith) ]
 
--- The numbers of refusals are 1 to 17.
-fault-number : {ks : List ℕ} {before : List Part} {r : List ℕ} {n : ℕ} → Fault ks before r n → (1 ≤ n) × (n ≤ 17)
+-- The numbers of refusals are 1 to 18.
+fault-number : {ks : List ℕ} {before : List Part} {r : List ℕ} {n : ℕ} → Fault ks before r n → (1 ≤ n) × (n ≤ 18)
 fault-number (F.no-element rest e z) = (omega arith, omega arith)
 fault-number (F.no-index rest e) = (omega arith, omega arith)
 fault-number (F.large-index ds rest e i n) = (omega arith, omega arith)
 fault-number (F.above b n) = (omega arith, omega arith)
 fault-number (F.clash g n run split free x) = of-clash x
   where
-    of-clash : {f : List ℕ} {b n : ℕ} → Clash f b n → (1 ≤ n) × (n ≤ 17)
+    of-clash : {f : List ℕ} {b n : ℕ} → Clash f b n → (1 ≤ n) × (n ≤ 18)
     of-clash (E.zero-after-minus e h) = (omega arith, omega arith)
     of-clash (E.plus-after-space e h) = (omega arith, omega arith)
     of-clash (E.space-after-plus e h) = (omega arith, omega arith)
@@ -224,21 +224,22 @@ fault-number (F.no-letter x n) = (omega arith, omega arith)
 fault-number (F.no-time-letter x i n) = (omega arith, omega arith)
 fault-number (F.no-fit x n) = (omega arith, omega arith)
 
-stop-number : {s ks : List ℕ} {n p : ℕ} → StopsReading s ks n p → (1 ≤ n) × (n ≤ 17)
+stop-number : {s ks : List ℕ} {n p : ℕ} → StopsReading s ks n p → (1 ≤ n) × (n ≤ 18)
 stop-number (many w full) = (omega arith, omega arith)
 stop-number (fault w few x) = fault-number x
 
-unprinted-number : {row : List ℕ} {parts : List Part} {n p : ℕ} → FirstUnprinted row parts n p → (1 ≤ n) × (n ≤ 17)
+unprinted-number : {row : List ℕ} {parts : List Part} {n p : ℕ} → FirstUnprinted row parts n p → (1 ≤ n) × (n ≤ 18)
 unprinted-number (here (K.not-printed h) a) = (omega arith, omega arith)
 unprinted-number (here (K.no-scalar p c m z) a) = (omega arith, omega arith)
+unprinted-number (here (K.no-whole-second p t z) a) = (omega arith, omega arith)
 unprinted-number (earlier x) = unprinted-number x
 
-input-number : {call : Call} {n : ℕ} → BadInput call n → (1 ≤ n) × (n ≤ 17)
+input-number : {call : Call} {n : ℕ} → BadInput call n → (1 ≤ n) × (n ≤ 18)
 input-number (K.many-kinds h) = (omega arith, omega arith)
 input-number (K.no-kind k h n) = (omega arith, omega arith)
 input-number (K.broken-row of h) = (omega arith, omega arith)
 
-cause-number : {call : Call} {n p : ℕ} → Cause call n p → (1 ≤ n) × (n ≤ 17)
+cause-number : {call : Call} {n p : ℕ} → Cause call n p → (1 ≤ n) × (n ≤ 18)
 cause-number (K.long h) = (omega arith, omega arith)
 cause-number (K.malformed h f) = (omega arith, omega arith)
 cause-number (K.input h f b) = input-number b
@@ -246,5 +247,5 @@ cause-number (K.reading b x) = stop-number x
 cause-number (K.unprinted b of w x) = unprinted-number x
 cause-number (K.no-room b w x y) = (omega arith, omega arith)
 
-pub number-in-table : (call : Call) (n p : ℕ) → refusal call ≡ some (record { number = n; place = p }) → (1 ≤ n) × (n ≤ 17)
+pub number-in-table : (call : Call) (n p : ℕ) → refusal call ≡ some (record { number = n; place = p }) → (1 ≤ n) × (n ≤ 18)
 number-in-table call n p e = cause-number (cause-of call n p e)

@@ -4,6 +4,7 @@ use mathlib.Core.Bool.{Bool, true, false}
 use mathlib.Core.List.{List, [], _∷_, _++_}
 use mathlib.Core.Option.{Option, none, some}
 use Prim.Native.Nat.{ℕ, _%_}
+use lib.IntN.{ℤ}
 use lib.ListN.{length}
 use Rattle.writing.specs.Text.{ascii, has}
 use Rattle.writing.proofs.Choose.{both}
@@ -26,8 +27,9 @@ use Rattle.rows.specs.Row.{namedText, kindByteOf, valueOf}
 use Rattle.elements.specs.Texts.{elementText, stopOf}
 use Rattle.pieces.specs.PieceTexts.{shownPiece, pieceStop}
 use Rattle.outcomes.specs.Printed.{Stop, stopAt, firstStop}
-use Rattle.causes.specs.Causes.{printsBytes, isScalarValue, Unprinted, not-printed, no-scalar, PartPrinted, AllPrinted, FirstUnprinted, here, earlier}
-use Rattle.causes.proofs.Unprinted.{isCharacter, Shows, shows, stop, stops-15, stops-16, goes-on}
+use Rattle.causes.specs.Causes.{printsBytes, isScalarValue, isBetweenSeconds, Unprinted, not-printed, no-scalar, no-whole-second}
+use Rattle.causes.specs.Causes.{PartPrinted, AllPrinted, FirstUnprinted, here, earlier}
+use Rattle.causes.proofs.Unprinted.{isCharacter, isDate, Shows, shows, stop, stops-15, stops-16, stops-18, goes-on}
 
 -- An element of a row whose kind is known.
 abbrev pub HasKind : List ℕ → Written → Type 0
@@ -56,9 +58,11 @@ module _ (s row : List ℕ) (e : Element) (w : Written) (is : ElementIs e w) (kn
       stop-so
       ∙ ap (stop e (namedText row (w .argument)) v form) null
       ∙ stops-16 e (namedText row (w .argument)) v form (sym (shown-so .character) ∙ simp (c, p)) z
+  unprinted-stops n (no-whole-second p t z) =
+      stop-so ∙ stops-18 e (namedText row (w .argument)) v form (isNull k) (sym (shown-so .date) ∙ simp (t, p)) z
 
   printed-goes : ((n : ℕ) → Unprinted row w n → ⊥) → pieceStop s row (AnElement e) ≡ none
-  printed-goes none-of = stop-so ∙ goes-on e (namedText row (w .argument)) v form (isNull k) (sym (shown-so .printed) ∙ printed) scalar
+  printed-goes none-of = stop-so ∙ goes-on e (namedText row (w .argument)) v form (isNull k) (sym (shown-so .printed) ∙ printed) scalar whole
     where
       printed : printsBytes (w .letter) (k % 128) ≡ true
       printed = go (printsBytes (w .letter) (k % 128)) refl
@@ -75,37 +79,55 @@ module _ (s row : List ℕ) (e : Element) (w : Written) (is : ElementIs e w) (kn
           go true q b = refl
           go false q b = absurd (none-of 16 (no-scalar printed b null q))
 
+      whole : isDate form ≡ true → isBetweenSeconds (intOf 64 v) ≡ false
+      whole d =
+          go (isBetweenSeconds (intOf 64 v)) refl (both (begins (has (ascii "tT")) (w .letter)) (printsBytes (w .letter) (k % 128)) (shown-so .date ∙ d) .0)
+        where
+          go : (t : Bool) → isBetweenSeconds (intOf 64 v) ≡ t → begins (has (ascii "tT")) (w .letter) ≡ true → t ≡ false
+          go false q b = refl
+          go true q b = absurd (none-of 18 (no-whole-second printed b q))
+
 -- Whether an element is printed, and whether all of some parts are, can be told.
 pub data Told (P : Type 0) (Q : ℕ → ℕ → Type 0) : Type 0 where
   fine : P → Told P Q
   found : {n p : ℕ} → Q n p → Told P Q
 
 module _ (row : List ℕ) where
+  -- A letter that prints is none of %c's and none of dates', or it is of one of them, and then its value decides.
   told-element : (w : Written) → Told (PartPrinted row (element w)) (λ n _. Unprinted row w n)
-  told-element w =
-      go (printsBytes (w .letter) (kindByteOf row (w .argument) % 128)) (begins (has (ascii "cC")) (w .letter)) (isNull (kindByteOf row (w .argument)))
-      (isScalarValue (intOf 64 (valueOf row (w .argument)))) refl refl refl refl
+  told-element w = by-letter (printsBytes (w .letter) (kindByteOf row (w .argument) % 128)) refl
     where
-      go : (a b c d : Bool) → printsBytes (w .letter) (kindByteOf row (w .argument) % 128) ≡ a → begins (has (ascii "cC")) (w .letter) ≡ b
-          → isNull (kindByteOf row (w .argument)) ≡ c → isScalarValue (intOf 64 (valueOf row (w .argument))) ≡ d
+      z : ℤ
+      z = intOf 64 (valueOf row (w .argument))
+
+      by-date : printsBytes (w .letter) (kindByteOf row (w .argument) % 128) ≡ true
+          → (begins (has (ascii "cC")) (w .letter) ≡ true → isNull (kindByteOf row (w .argument)) ≡ false → isScalarValue z ≡ false → ⊥) → (d b : Bool)
+          → begins (has (ascii "tT")) (w .letter) ≡ d → isBetweenSeconds z ≡ b → Told (PartPrinted row (element w)) (λ n _. Unprinted row w n)
+      by-date p scalar true true d b = found {p = 0} (no-whole-second p d b)
+      by-date p scalar true false d b = fine (λ n u. against n u)
+        where
+          against : (n : ℕ) → Unprinted row w n → ⊥
+          against n (not-printed h) = never (sym h ∙ p)
+          against n (no-scalar x y m l) = scalar y m l
+          against n (no-whole-second x y l) = never (sym b ∙ l)
+      by-date p scalar false t d b = fine (λ n u. against n u)
+        where
+          against : (n : ℕ) → Unprinted row w n → ⊥
+          against n (not-printed h) = never (sym h ∙ p)
+          against n (no-scalar x y m l) = scalar y m l
+          against n (no-whole-second x y l) = never (sym d ∙ y)
+
+      by-character : printsBytes (w .letter) (kindByteOf row (w .argument) % 128) ≡ true → (c m s : Bool)
+          → begins (has (ascii "cC")) (w .letter) ≡ c → isNull (kindByteOf row (w .argument)) ≡ m → isScalarValue z ≡ s
           → Told (PartPrinted row (element w)) (λ n _. Unprinted row w n)
-      go false b c d p q r z = found {p = 0} (not-printed p)
-      go true true false false p q r z = found {p = 0} (no-scalar p q r z)
-      go true false c d p q r z = fine (λ n u. against n u)
-        where
-          against : (n : ℕ) → Unprinted row w n → ⊥
-          against n (not-printed h) = never (sym h ∙ p)
-          against n (no-scalar x y m l) = never (sym q ∙ y)
-      go true true true d p q r z = fine (λ n u. against n u)
-        where
-          against : (n : ℕ) → Unprinted row w n → ⊥
-          against n (not-printed h) = never (sym h ∙ p)
-          against n (no-scalar x y m l) = never (sym m ∙ r)
-      go true true false true p q r z = fine (λ n u. against n u)
-        where
-          against : (n : ℕ) → Unprinted row w n → ⊥
-          against n (not-printed h) = never (sym h ∙ p)
-          against n (no-scalar x y m l) = never (sym l ∙ z)
+      by-character p true false false c m s = found {p = 0} (no-scalar p c m s)
+      by-character p false n t c m s = by-date p (λ y k l. never (sym c ∙ y)) _ _ refl refl
+      by-character p true true t c m s = by-date p (λ y k l. never (sym k ∙ m)) _ _ refl refl
+      by-character p true false true c m s = by-date p (λ y k l. never (sym l ∙ s)) _ _ refl refl
+
+      by-letter : (p : Bool) → printsBytes (w .letter) (kindByteOf row (w .argument) % 128) ≡ p → Told (PartPrinted row (element w)) (λ n _. Unprinted row w n)
+      by-letter false p = found {p = 0} (not-printed p)
+      by-letter true p = by-character p _ _ _ refl refl refl
 
   pub told : (parts : List Part) → Told (AllPrinted row parts) (FirstUnprinted row parts)
   told [] = fine tt

@@ -1,9 +1,9 @@
 -- 01's table, "What stops a call", over the bytes of what is lent: the cause of each number, in the table's order. For laws alone.
-use Prim.Native.Nat.{ℕ, _%_, _≤_, _<_}
+use Prim.Native.Nat.{ℕ, suc, _%_, _≤_, _<_}
 use mathlib.Core.Path.{_≡_}
-use mathlib.Core.Bool.{Bool, true, false, _&&_, _||_}
+use mathlib.Core.Bool.{Bool, true, false, not, _&&_, _||_}
 use mathlib.Core.List.{List, [], _∷_}
-use lib.Dec.{leb}
+use lib.Dec.{leb, eqb}
 use lib.IntN.{ℤ, pos, negsuc}
 use lib.ListN.{length}
 use Rattle.refusals.specs.Limits.{mostFormat, mostKinds, largestEnd}
@@ -19,7 +19,7 @@ use Rattle.rows.specs.Row.{kindByteOf, valueOf, isRow}
 use Rattle.outcomes.specs.Printed.{printedText}
 use Rattle.causes.specs.Calls.{Call, checking, printing, formatIn, kindsIn, OfRow}
 
--- "over 64 kinds, or a kind not 1 to 7 (checking)", "row breaks its layout"
+-- "over 64 kinds, or a kind not 1 to 7 (checking)", with 02, E1, not 1 to 8; "row breaks its layout"
 pub data BadInput : Call → ℕ → Type 0 where
   many-kinds : {s ks : List ℕ} → mostKinds < length ks → BadInput (checking s ks) 3
   no-kind : {s ks : List ℕ} (k : ℕ) → has ks k ≡ true → has kinds k ≡ false → BadInput (checking s ks) 3
@@ -32,10 +32,10 @@ pub record Begins (call : Call) : Type 0 where
   pub input : (number : ℕ) → BadInput call number → ⊥
 
 -- Which letters print which kinds: integers by %d, %x, %o, %c and %s; "the only letters printed for kind 5" are those of %a; "%b of Boolean and %s of
--- text are the only letters printed for kinds 6 and 7 (capitals too)".
+-- text are the only letters printed for kinds 6 and 7 (capitals too)"; 02, E1, of kind 8: "only t and T print".
 abbrev pub printedFor : List (List ℕ × List ℕ)
 printedFor =
-    (ascii "dxXocCsS", 1 ∷ 2 ∷ 3 ∷ 4 ∷ []) ∷ (ascii "aA", 5 ∷ []) ∷ (ascii "bB", 6 ∷ []) ∷ (ascii "sS", 7 ∷ []) ∷ []
+    (ascii "dxXocCsS", 1 ∷ 2 ∷ 3 ∷ 4 ∷ []) ∷ (ascii "aA", 5 ∷ []) ∷ (ascii "bB", 6 ∷ []) ∷ (ascii "sS", 7 ∷ []) ∷ (ascii "tT", 8 ∷ []) ∷ []
 
 abbrev pub printsBytes : List ℕ → ℕ → Bool
 printsBytes [] k = false
@@ -46,13 +46,22 @@ abbrev pub isScalarValue : ℤ → Bool
 isScalarValue (pos n) = leb n 0xd7ff || (leb 0xe000 n && leb n 0x10ffff)
 isScalarValue (negsuc n) = false
 
--- "letter not printed for this kind", "%c of no Unicode scalar value", of an element of a row.
+-- A timestamp before 1970 that is not a whole second.
+abbrev pub isBetweenSeconds : ℤ → Bool
+isBetweenSeconds (pos n) = false
+isBetweenSeconds (negsuc n) = not (eqb (suc n % 1000000000) 0)
+
+-- "letter not printed for this kind", "%c of no Unicode scalar value", and 02, E1, "at the place of a t or T element, for a negative timestamp there that is
+-- not a whole second", of an element of a row.
 pub data Unprinted (row : List ℕ) (w : Written) : ℕ → Type 0 where
   not-printed : printsBytes (w .letter) (kindByteOf row (w .argument) % 128) ≡ false → Unprinted row w 15
   no-scalar : printsBytes (w .letter) (kindByteOf row (w .argument) % 128) ≡ true → begins (has (ascii "cC")) (w .letter) ≡ true
       → isNull (kindByteOf row (w .argument)) ≡ false → isScalarValue (intOf 64 (valueOf row (w .argument))) ≡ false → Unprinted row w 16
+  no-whole-second : printsBytes (w .letter) (kindByteOf row (w .argument) % 128) ≡ true → begins (has (ascii "tT")) (w .letter) ≡ true
+      → isBetweenSeconds (intOf 64 (valueOf row (w .argument))) ≡ true → Unprinted row w 18
 
--- "then 15 and 16 left to right over a format that passed": that none of some parts is such, and the first that is. The last part stands first.
+-- "then 15 and 16 left to right over a format that passed", and 18 "comes with 15 and 16, left to right": that none of some parts is such, and the
+-- first that is. The last part stands first.
 abbrev pub PartPrinted : List ℕ → Part → Type 0
 PartPrinted row (text t) = Unit {0}
 PartPrinted row percent = Unit {0}
@@ -84,7 +93,7 @@ pub data Cause : Call → ℕ → ℕ → Type 0 where
   input : {call : Call} {number : ℕ} → length (formatIn call) ≤ mostFormat → wellFormed (formatIn call) ≡ true → BadInput call number → Cause call number 0
   -- 4 to 13
   reading : {call : Call} {number place : ℕ} → Begins call → StopsReading (formatIn call) (kindsIn call) number place → Cause call number place
-  -- 15 and 16
+  -- 15, 16 and 18
   unprinted : {call : Call} {row : List ℕ} {parts : List Part} {number place : ℕ} → Begins call → OfRow call row → Whole (formatIn call) (kindsIn call) parts
       → FirstUnprinted row parts number place → Cause call number place
   -- 17

@@ -64,6 +64,7 @@ module _ (v : ℕ) (b : v < 2 ^ 64) (text : List ℕ) where
   of-kind K.Float64 null s h = tt
   of-kind K.Boolean null s h = tt
   of-kind K.Text null s h = tt
+  of-kind K.Timestamp null s h = tt
 
   of-byte : (n : ℕ) (k : KindByte) (null : Bool) → kindOf n ≡ k → entryOf k null text v ≡ true → OfByte (OwnBits v null) k
   of-byte n (Known k) null q h = of-kind k null (has-width n k q) h
@@ -86,7 +87,7 @@ module _ (e : Element) (part : List ℕ) (v : ℕ) where
       → ShownRead (ValueRead e (formOf (e .conversion) n) null v) (valueText e (formOf (e .conversion) n) null part v)
   value-read null n q =
       form-of (λ f. ShownRead (ValueRead e f null v) (valueText e f null part v)) (OwnBits v null) n tt (integer-value null)
-      (float-read e (categoryOf v) v) tt (λ _. tt) (e .conversion) q
+      (float-read e (categoryOf v) v) tt (λ _. tt) (λ x. not-read (valueText e (F.Time x) null part v)) (e .conversion) q
 
 -- of every element, for an entry of a row: its kind byte k, its value v, and the row's text
 element-read : (e : Element) (k : ℕ) (text part : List ℕ) (v : ℕ) → v < 2 ^ 64 → entryOf (kindOf (k % 128)) (isNull k) text v ≡ true

@@ -54,4 +54,5 @@ ValueRead e (F.Integer f w) true v t = Unit {0}
 ValueRead e F.HexFloat null v t = FiniteRead (categoryOf v) v (e .precision) (readPiece (floatLetter (e .upper)) t)
 ValueRead e F.Boolean null v t = Unit {0}
 ValueRead e F.Text null v t = Unit {0}
+ValueRead e (F.Time x) null v t = Unit {0}
 ValueRead e F.NotPrinted null v t = ⊥

@@ -4,6 +4,7 @@ use mathlib.Core.Path.{_≡_, refl}
 use mathlib.Core.Bool.{Bool, true, false}
 use lib.Dec.{eqb}
 use Rattle.letters.specs.Letters.{lookup}
+use Rattle.letters.specs.declared.TimeFormat.{TimeFormat}
 use Rattle.letters.specs.declared.ConversionType.{ConversionType}
 use Rattle.letters.specs.declared.ConversionType.the-variants as C
 use Rattle.letters.proofs.Tables.{together}
@@ -26,6 +27,7 @@ OfByte Q (Known (K.Signed w)) = Q w
 OfByte Q (Known K.Float64) = Unit {0}
 OfByte Q (Known K.Boolean) = Unit {0}
 OfByte Q (Known K.Text) = Unit {0}
+OfByte Q (Known K.Timestamp) = Unit {0}
 OfByte Q Unknown = Unit {0}
 
 -- Where nothing is claimed, it holds of every byte.
@@ -34,11 +36,14 @@ any-byte (Known (K.Signed w)) = tt
 any-byte (Known K.Float64) = tt
 any-byte (Known K.Boolean) = tt
 any-byte (Known K.Text) = tt
+any-byte (Known K.Timestamp) = tt
 any-byte Unknown = tt
 
--- A claim of forms holds of the form of a kind where it holds of an integer in each width of that kind, and, of kind 7 alone, of a text.
+-- A claim of forms holds of the form of a kind where it holds of an integer in each width of that kind, of kind 7 alone of a text, and of every
+-- component of a date.
 module _ (P : Form → Type 0) (Q : ℕ → Type 0) (k : ℕ) (n : P F.NotPrinted) (i : (f : IntegerForm) (w : ℕ) → Q w → P (F.Integer f w))
-    (h : P F.HexFloat) (b : P F.Boolean) (t : eqb k 7 ≡ true → P F.Text) where
+    (h : P F.HexFloat) (b : P F.Boolean) (t : eqb k 7 ≡ true → P F.Text)
+    (d : (x : TimeFormat) → P (F.Time x)) where
   integer : (f : IntegerForm) (others : Form) → P others → OfByte Q (kindOf k) → P (integerForm f k others)
   unfolding kindOf integerForm
   integer f others o =
@@ -52,5 +57,5 @@ module _ (P : Form → Type 0) (Q : ℕ → Type 0) (k : ℕ) (n : P F.NotPrinte
   form-of C.HexFloat q = only-if P (eqb k 5) F.HexFloat n (λ _. h)
   form-of C.Boolean q = only-if P (eqb k 6) F.Boolean n (λ _. b)
   form-of C.DecimalFloat q = n
-  form-of (C.Time x) q = n
+  form-of (C.Time x) q = only-if P (eqb k 8) (F.Time x) n (λ _. d x)
   form-of C.HexHash q = n

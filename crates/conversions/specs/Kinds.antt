@@ -13,20 +13,20 @@ use Rattle.conversions.specs.declared.KindByte.the-variants.{Known, Unkn
 use Rattle.conversions.specs.declared.IntegerForm.{IntegerForm}
 use Rattle.conversions.specs.declared.IntegerForm.the-variants.{Numeral, Scalar, Digits}
 use Rattle.conversions.specs.declared.Form.{Form}
-use Rattle.conversions.specs.declared.Form.the-variants.{Integer, HexFloat, Boolean, Text, NotPrinted}
+use Rattle.conversions.specs.declared.Form.the-variants.{Integer, HexFloat, Boolean, Text, Time, NotPrinted}
 
 -- 01: "Kinds: 1 to 4 signed integers of 8, 16, 32 and 64 bits": each with its width,
 abbrev pub integerKinds : List (ℕ × ℕ)
 integerKinds = (1, 8) ∷ (2, 16) ∷ (3, 32) ∷ (4, 64) ∷ []
 
--- "5 Float64 ..; 6 Boolean ..; 7 text"
+-- "5 Float64 ..; 6 Boolean ..; 7 text". 02, E1: "Add kind 8, .. a UTC timestamp".
 abbrev pub otherKinds : List (ℕ × Kind)
-otherKinds = (5, K.Float64) ∷ (6, K.Boolean) ∷ (7, K.Text) ∷ []
+otherKinds = (5, K.Float64) ∷ (6, K.Boolean) ∷ (7, K.Text) ∷ (8, K.Timestamp) ∷ []
 
 unfoldable pub kindOf : ℕ → KindByte
 kindOf b = lookup (λ k. k) (λ w. Known (K.Signed w)) (lookup (λ k. k) Known Unknown otherKinds b) integerKinds b
 
--- 01: "over 64 kinds, or a kind not 1 to 7"
+-- 01: "over 64 kinds, or a kind not 1 to 7"; with 02, E1, not 1 to 8.
 abbrev pub isKnown : KindByte → Bool
 isKnown (Known k) = true
 isKnown Unknown = false
@@ -35,7 +35,7 @@ unfoldable pub allKnown : List ℕ → Bool
 allKnown [] = true
 allKnown (k ∷ ks) = isKnown (kindOf k) && allKnown ks
 
--- What fits. 01: "b needs 6; c, d, o, x need 1 to 4; e, f, g, a need 1 to 5; t and T fit none of our kinds; s and h take all."
+-- What fits. 01: "b needs 6; c, d, o, x need 1 to 4; e, f, g, a need 1 to 5; .. s and h take all." 02, E1: "Kind 8 fits t, T, s and h".
 unfoldable pub isIntegerKind : ℕ → Bool
 isIntegerKind k = lookup (λ b. b) (λ w. true) false integerKinds k
 
@@ -49,12 +49,12 @@ fits C.Char k = isIntegerKind k
 fits (C.Integer r) k = isIntegerKind k
 fits C.DecimalFloat k = isNumberKind k
 fits C.HexFloat k = isNumberKind k
-fits (C.Time t) k = false
+fits (C.Time t) k = eqb k 8
 fits C.String k = true
 fits C.HexHash k = true
 
 -- What prints. 01: integers by %d, %x, %o, %c and %s; %a is "the only" letter "printed for kind 5"; "%b of Boolean and %s of text are the only
--- letters printed for kinds 6 and 7".
+-- letters printed for kinds 6 and 7". 02, E1, of kind 8: "only t and T print".
 unfoldable pub integerForm : IntegerForm → ℕ → Form → Form
 integerForm f k others = lookup (λ b. b) (λ w. Integer f w) others integerKinds k
 
@@ -69,7 +69,7 @@ formOf C.String k = integerForm Digits k (onlyIf (eqb k 7) Text)
 formOf C.HexFloat k = onlyIf (eqb k 5) HexFloat
 formOf C.Boolean k = onlyIf (eqb k 6) Boolean
 formOf C.DecimalFloat k = NotPrinted
-formOf (C.Time t) k = NotPrinted
+formOf (C.Time t) k = onlyIf (eqb k 8) (Time t)
 formOf C.HexHash k = NotPrinted
 
 -- Of a kind byte: 128 added to a kind marks null, which neither table looks at.

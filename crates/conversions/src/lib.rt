@@ -1,17 +1,19 @@
 // The kinds of value, which letter fits which kind, and how a letter prints a kind.
 // Ported from format_string.rs of datafusion-spark 55.2.0 (Apache-2.0; see NOTICE): ConversionType::validate.
 use letters::ConversionType;
+use letters::TimeFormat;
 use numerals::Radix;
 ghost use mathlib.Core.Path.{_≡_};
 ghost use Rattle.conversions.specs.Kinds.{kindOf, isKnown, allKnown, isIntegerKind, isNumberKind, fits, fitsKind, integerForm, onlyIf, formOf, printsAs};
 ghost use Rattle.conversions.specs.declared.Form.the-variants.{NotPrinted};
 
-// A kind of value: a signed integer with its width in bits, a binary64 float, a Boolean, a text.
+// A kind of value: a signed integer with its width in bits, a binary64 float, a Boolean, a text, a timestamp.
 pub enum Kind {
     Signed(u32),
     Float64,
     Boolean,
     Text,
+    Timestamp,
 }
 
 // How an integer is printed: as a numeral, as the character that it numbers, or by its decimal digits as text.
@@ -27,6 +29,7 @@ pub enum Form {
     HexFloat,
     Boolean,
     Text,
+    Time(TimeFormat),
     NotPrinted,
 }
 
@@ -47,6 +50,7 @@ pub fn kind_of(b: u8) -> KindByte
         5 => KindByte::Known(Kind::Float64),
         6 => KindByte::Known(Kind::Boolean),
         7 => KindByte::Known(Kind::Text),
+        8 => KindByte::Known(Kind::Timestamp),
         _ => KindByte::Unknown,
     }
 }
@@ -107,7 +111,7 @@ fn fits(conversion: ConversionType, kind: u8) -> bool
         ConversionType::Integer(_) => is_integer(kind),
         ConversionType::DecimalFloat => is_number(kind),
         ConversionType::HexFloat => is_number(kind),
-        ConversionType::Time(_) => false,
+        ConversionType::Time(_) => kind == 8,
     }
 }
 
@@ -174,7 +178,7 @@ fn form_of(conversion: ConversionType, kind: u8) -> Form
         ConversionType::Integer(radix) => integer_form(IntegerForm::Numeral(radix), kind),
         ConversionType::DecimalFloat => Form::NotPrinted,
         ConversionType::HexFloat => only_if(kind == 5, Form::HexFloat),
-        ConversionType::Time(_) => Form::NotPrinted,
+        ConversionType::Time(component) => only_if(kind == 8, Form::Time(component)),
     }
 }
 

@@ -1,10 +1,10 @@
--- The text of a row's value under an element. 01, "A row printed, or only measured".
+-- The text of a row's value under an element. 01, "A row printed, or only measured", and 02, E1, of dates.
 use Prim.Native.Nat.{ℕ}
 use mathlib.Core.Bool.{Bool}
 use mathlib.Core.List.{List, []}
 use mathlib.Core.Option.{Option, none, some}
 use lib.Dec.{eqb}
-use lib.IntN.{natAbs}
+use lib.IntN.{ℤ, natAbs}
 use Rattle.writing.specs.Choose.{choose}
 use Rattle.writing.specs.Text.{ascii}
 use Rattle.numerals.specs.Integers.{intOf, isNegative}
@@ -12,6 +12,7 @@ use Rattle.layout.specs.declared.Mark.the-variants.{NoMark}
 use Rattle.binary64.specs.Fields.{negative, categoryOf}
 use Rattle.binary64.specs.declared.FpCategory.{FpCategory}
 use Rattle.binary64.specs.declared.FpCategory.the-variants as C
+use Rattle.letters.specs.declared.TimeFormat.{TimeFormat}
 use Rattle.conversions.specs.Kinds.{printsAs}
 use Rattle.conversions.specs.declared.IntegerForm.{IntegerForm}
 use Rattle.conversions.specs.declared.IntegerForm.the-variants.{Numeral, Scalar, Digits}
@@ -20,6 +21,8 @@ use Rattle.conversions.specs.declared.Form.the-variants as F
 use Rattle.specifiers.specs.declared.Element.{Element}
 use Rattle.numbers.specs.Numbers.{numeralText, floatMark, finiteText}
 use Rattle.scalars.specs.Scalars.{isScalar, utf8Of}
+use Rattle.strings.specs.Cut.{cased}
+use Rattle.components.specs.Components.{componentText, isEarlyFraction}
 use Rattle.entries.specs.Entry.{isNull}
 use Rattle.fields.specs.Texts.{paddedText, formatString, signedText}
 
@@ -45,6 +48,11 @@ floatText e C.Nan v = paddedText e NoMark (ascii "NaN")
 floatText e C.Infinite v = paddedText e (floatMark (e .flags) (negative v)) (ascii "Infinity")
 floatText e C.Finite v = finiteText e v
 
+-- t and T: 18 for "a negative timestamp there that is not a whole second" (02, E1); "T raises letters to capitals. Width, precision and flags do
+-- nothing there."
+abbrev pub timeText : Bool → TimeFormat → ℤ → Shown
+timeText upper t z = choose (isEarlyFraction z) (λ _. Stops 18) (λ _. Text (cased upper (componentText t z)))
+
 -- A value in its form, null or not; `part` is the text that a value of kind 7 names. "Null prints `null` through `format_string` for all of these"
 -- integers; "Null Boolean prints `false`", its value being 0. 15 for a letter that is not printed for the kind.
 abbrev pub valueText : Element → Form → Bool → List ℕ → ℕ → Shown
@@ -52,6 +60,7 @@ valueText e (F.Integer f w) null part v = choose null (λ _. Text (formatString 
 valueText e F.HexFloat null part v = Text (floatText e (categoryOf v) v)
 valueText e F.Boolean null part v = Text (formatString e (choose (eqb v 0) (λ _. ascii "false") (λ _. ascii "true")))
 valueText e F.Text null part v = Text (formatString e part)
+valueText e (F.Time t) null part v = timeText (e .upper) t (intOf 64 v)
 valueText e F.NotPrinted null part v = Stops 15
 
 -- An element for the kind byte k, the text `part` and the value v.

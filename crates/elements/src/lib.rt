@@ -1,10 +1,12 @@
 // The text of a row's value under an element: its length, and its writer, which writes where there is room.
-// Ported from format_string.rs of datafusion-spark 55.2.0 (Apache-2.0; see NOTICE): format_integer, format_char, format_boolean and
-// format_hex_float, but for the text of a number, which is `numbers`, and a text in its field, which is `fields`.
+// Ported from format_string.rs of datafusion-spark 55.2.0 (Apache-2.0; see NOTICE): format_integer, format_char, format_boolean,
+// format_hex_float and format_time, but for the text of a number, which is `numbers`, a text in its field, which is `fields`, and a component
+// of a date, which is `components`.
 use binary64::FpCategory;
 use conversions::Form;
 use conversions::IntegerForm;
 use layout::Mark;
+use letters::TimeFormat;
 use specifiers::Element;
 ghost use mathlib.Core.Bool.{false};
 ghost use mathlib.Core.List.{[]};
@@ -15,7 +17,7 @@ ghost use Rattle.writing.specs.Writers.{Put};
 ghost use Rattle.numerals.specs.Integers.{intOf, isNegative};
 ghost use Rattle.binary64.specs.Fields.{categoryOf};
 ghost use Rattle.conversions.specs.declared.Form.the-variants as F;
-ghost use Rattle.elements.specs.Texts.{charText, floatText, integerText, valueText, elementText, textOf};
+ghost use Rattle.elements.specs.Texts.{charText, floatText, integerText, timeText, valueText, elementText, textOf};
 ghost use Rattle.elements.specs.Sizes.{Sized};
 
 // The length of a text, or the number that stops it.
@@ -84,6 +86,18 @@ fn format_boolean(out: &mut [u8], e: Element, value: u64) -> u64
     fields::format_string(out, e, b"true")
 }
 
+// t, and T where upper is set.
+fn format_time(out: &mut [u8], component: TimeFormat, value: u64, upper: bool) -> Size
+    ensures { λ r. ⌜ Sized (now (out .entry)) (timeText upper component (intOf 64 value)) r (now (out .exit)) ⌝ }
+{
+    if components::is_early_fraction(value) {
+        return Size::Stops(refusals::NO_WHOLE_SECOND);
+    }
+    let mut buffer = [0u8; 168];
+    let n = components::write_component(&mut buffer, component, value);
+    Size::Bytes(strings::put_cased(out, &buffer[..n], upper) as u64)
+}
+
 // Writes an element for a row's entry where there is room for it: its kind byte, the text it names, its value.
 pub fn put_element(out: &mut [u8], e: Element, kind: u8, part: &[u8], value: u64) -> Size
     requires { ⌜ length (now part) < 2 ^ 32 ⌝ }
@@ -104,6 +118,13 @@ pub fn put_element(out: &mut [u8], e: Element, kind: u8, part: &[u8], value: u64
         Form::HexFloat => Size::Bytes(format_hex_float(out, e, value)),
         Form::Boolean => Size::Bytes(format_boolean(out, e, value)),
         Form::Text => Size::Bytes(fields::format_string(out, e, part)),
+        Form::Time(component) => {
+            // Called from two places, so that it is compiled apart from the loop over pieces, which has to be quick for numbers.
+            if e.upper {
+                return format_time(out, component, value, true);
+            }
+            format_time(out, component, value, false)
+        }
         Form::NotPrinted => Size::Stops(refusals::NOT_PRINTED),
     }
 }

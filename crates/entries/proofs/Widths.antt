@@ -35,7 +35,7 @@ other-kinds : (b : ℕ) → ByteWidth (lookup (λ k. k) Known Unknown otherKinds
 unfolding ByteWidth
 other-kinds b =
     by-test ByteWidth (eqb b 5) _ _ (λ _. tt)
-    (λ _. by-test ByteWidth (eqb b 6) _ _ (λ _. tt) (λ _. by-test ByteWidth (eqb b 7) _ _ (λ _. tt) (λ _. tt)))
+    (λ _. by-test ByteWidth (eqb b 6) _ _ (λ _. tt) (λ _. by-test ByteWidth (eqb b 7) _ _ (λ _. tt) (λ _. by-test ByteWidth (eqb b 8) _ _ (λ _. tt) (λ _. tt))))
 
 all : (b : ℕ) → ByteWidth (kindOf b)
 unfolding kindOf

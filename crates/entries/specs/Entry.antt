@@ -19,19 +19,21 @@ abbrev pub partOf : List ℕ → ℕ → List ℕ
 partOf text v = take (v / 2 ^ 32) (drop (v % 2 ^ 32) text)
 
 -- The values of each kind: integers "sign-extended, within the kind"; every pattern of a float; "Boolean (0 or 1)"; a text whose offset and length
--- have a "sum at most t, well-formed UTF-8".
+-- have a "sum at most t, well-formed UTF-8"; every timestamp.
 abbrev pub holds : Kind → List ℕ → ℕ → Bool
 holds (K.Signed w) text v = ltb v (2 ^ (w - 1)) || leb (2 ^ 64 - 2 ^ (w - 1)) v
 holds K.Float64 text v = true
 holds K.Boolean text v = leb v 1
 holds K.Text text v = leb (v % 2 ^ 32 + v / 2 ^ 32) (length text) && wellFormed (partOf text v)
+holds K.Timestamp text v = true
 
--- "128 added to kinds 1 to 4 or 6 means null, with value 0."
+-- "128 added to kinds 1 to 4 or 6 means null, with value 0." A timestamp is "never null" (02, E1).
 abbrev pub canBeNull : Kind → Bool
 canBeNull (K.Signed w) = true
 canBeNull K.Float64 = false
 canBeNull K.Boolean = true
 canBeNull K.Text = false
+canBeNull K.Timestamp = false
 
 -- A kind byte with its value.
 abbrev pub entryOf : KindByte → Bool → List ℕ → ℕ → Bool

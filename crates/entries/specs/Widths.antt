@@ -9,3 +9,4 @@ HasWidth (K.Signed w) = (1 ≤ w) × (w ≤ 64)
 HasWidth K.Float64 = Unit {0}
 HasWidth K.Boolean = Unit {0}
 HasWidth K.Text = Unit {0}
+HasWidth K.Timestamp = Unit {0}

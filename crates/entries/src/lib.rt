@@ -42,6 +42,7 @@ fn is_value(kind: Kind, text: &[u8], value: u64) -> bool
         Kind::Float64 => true,
         Kind::Boolean => value <= 1,
         Kind::Text => is_part(text, value),
+        Kind::Timestamp => true,
     }
 }
 
@@ -53,6 +54,7 @@ fn can_be_null(kind: Kind) -> bool
         Kind::Float64 => false,
         Kind::Boolean => true,
         Kind::Text => false,
+        Kind::Timestamp => false,
     }
 }
 

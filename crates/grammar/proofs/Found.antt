@@ -187,6 +187,7 @@ module _ (s ks : List ℕ) (c : Cursor) (before : List Part) (at : At before c) 
                 width = refl;
                 precision = refl;
                 conversion = y .is .named;
+                component = y .is .component;
                 upper = y .is .capital;
                 letter =
                     ap (λ (l : List ℕ). letterFrom l 0) (sym (append-nil (w .letter)))

@@ -4,9 +4,10 @@ use mathlib.Core.Bool.{Bool, true, false, not, _&&_, _||_}
 use mathlib.Core.List.{List, [], _∷_, _++_}
 use Prim.Native.Nat.{ℕ, _+_}
 use Prim.Native.Char.{code}
+use native.Mathlib.Decide.{ℕ-discrete}
 use native.Mathlib.Omega.{arith}
 use lib.Dec.{eqb}
-use lib.ListN.{length}
+use lib.ListN.{length, drop}
 use borrow.Author.Tests.{eqb-true, ne-eqb}
 use Rattle.writing.specs.Choose.{choose}
 use Rattle.writing.specs.Text.{ascii, has}
@@ -25,7 +26,7 @@ use Rattle.specifiers.specs.Specifier.{capitalTaken, oneLetter, timeLetter, sec
 use Rattle.specifiers.specs.declared.LetterTaken.{LetterTaken}
 use Rattle.specifiers.specs.declared.LetterTaken.the-variants as L
 use Rattle.grammar.specs.Runs.{begins, all}
-use Rattle.grammar.specs.Pieces.{lettersOf, capitals}
+use Rattle.grammar.specs.Pieces.{lettersOf, componentLetters, namesComponent, capitals}
 use Rattle.grammar.specs.Elements.{letters, timeLetters, IsLetter, plain, time, kinds, needs, inTable, fitsBytes}
 
 pub never : false ≡ true → ⊥
@@ -66,10 +67,6 @@ abbrev fitsRead : LetterTaken → ℕ → Bool
 fitsRead (L.Read c u at) k = fits c k
 fitsRead (L.Refused n) k = false
 
-abbrev isComponent : TimeLetter → Bool
-isComponent (Component x) = true
-isComponent NoComponent = false
-
 abbrev pub same : Bool → Bool → Bool
 same true b = b
 same false b = not b
@@ -92,15 +89,20 @@ all-fit = refl
 
 -- which conversion a letter names, and whether it is a capital
 abbrev namesRead : LetterTaken → ℕ → Bool
-namesRead (L.Read c u at) b = has (lettersOf c) b && same u (has capitals b)
+namesRead (L.Read c u at) b = has (lettersOf c) b && (same u (has capitals b) && namesComponent c [])
 namesRead (L.Refused n) b = false
 
 all-named : all (λ b. namesRead (one b) b) letters ≡ true
 unfolding all has one smallOf capitalOf
 all-named = refl
 
-all-times : all (λ b. isComponent (timeOf b)) timeLetters ≡ true
-unfolding all timeOf
+-- which component a letter behind t or T names
+abbrev namesTime : TimeLetter → ℕ → Bool
+namesTime (Component y) b = has (componentLetters y) b
+namesTime NoComponent b = false
+
+all-times : all (λ b. namesTime (timeOf b) b) timeLetters ≡ true
+unfolding all has timeOf
 all-times = refl
 
 -- A letter is read, behind the place where it stands; it fits a kind as the table says.
@@ -108,6 +110,7 @@ pub record LetterIs (x : List ℕ) (c : ConversionType) (u : Bool) : Type 0 wher
   pub read : (rest : List ℕ) (at : ℕ) → letterFrom (x ++ rest) at ≡ L.Read c u (at + length x)
   pub fits-as : (k : ℕ) → has kinds k ≡ true → fitsBytes x k ≡ fits c k
   pub named : begins (has (lettersOf c)) x ≡ true
+  pub component : namesComponent c (drop 1 x) ≡ true
   pub capital : u ≡ begins (has capitals) x
 
 pub record SomeLetter (x : List ℕ) : Type 0 where
@@ -140,10 +143,11 @@ plain-letter l h = go (smallOf l) (capitalOf l) refl refl (all-has (λ b. wasRea
     names : namesRead (one l) l ≡ true
     names = all-has (λ b. namesRead (one b) b) letters l all-named h
 
-    named-so : (c : ConversionType) (u : Bool) → one l ≡ L.Read c u 1 → (has (lettersOf c) l ≡ true) × (u ≡ has capitals l)
+    named-so : (c : ConversionType) (u : Bool) → one l ≡ L.Read c u 1 → (has (lettersOf c) l ≡ true) × (u ≡ has capitals l) × (namesComponent c [] ≡ true)
     named-so c u e =
-        let p = both (has (lettersOf c) l) (same u (has capitals l)) (ap (λ (t : LetterTaken). namesRead t l) (sym e) ∙ names) in
-        (p .0, same-is u (has capitals l) (p .1))
+        let p = both (has (lettersOf c) l) (same u (has capitals l) && namesComponent c []) (ap (λ (t : LetterTaken). namesRead t l) (sym e) ∙ names) in
+        let q = both (same u (has capitals l)) (namesComponent c []) (p .1) in
+        (p .0, same-is u (has capitals l) (q .0), q .1)
 
     at-once : (rest : List ℕ) (at : ℕ) → letterFrom (l ∷ rest) at ≡ oneLetter (smallOf l) (capitalOf l) at
     at-once rest at = let n = not-time l h in simp (n .0, n .1)
@@ -156,6 +160,7 @@ plain-letter l h = go (smallOf l) (capitalOf l) refl refl (all-has (λ b. wasRea
         read = λ rest at. at-once rest at ∙ ap (λ (x : Letter). oneLetter x (capitalOf l) at) p;
         fits-as = λ k i. as-table k i ∙ ap (λ (x : Letter). fitsRead (oneLetter x (capitalOf l) 0) k) p;
         named = named-so c false (ap (λ (x : Letter). oneLetter x (capitalOf l) 0) p) .0;
+        component = named-so c false (ap (λ (x : Letter). oneLetter x (capitalOf l) 0) p) .2;
         capital = named-so c false (ap (λ (x : Letter). oneLetter x (capitalOf l) 0) p) .1;
       };
     }
@@ -167,6 +172,7 @@ plain-letter l h = go (smallOf l) (capitalOf l) refl refl (all-has (λ b. wasRea
         fits-as = λ k i.
             as-table k i ∙ ap (λ (x : Letter). fitsRead (oneLetter x (capitalOf l) 0) k) p ∙ ap (λ (x : Letter). fitsRead (capitalTaken x 0) k) q;
         named = named-so c true (ap (λ (x : Letter). oneLetter x (capitalOf l) 0) p ∙ ap (λ (x : Letter). capitalTaken x 0) q) .0;
+        component = named-so c true (ap (λ (x : Letter). oneLetter x (capitalOf l) 0) p ∙ ap (λ (x : Letter). capitalTaken x 0) q) .2;
         capital = named-so c true (ap (λ (x : Letter). oneLetter x (capitalOf l) 0) p ∙ ap (λ (x : Letter). capitalTaken x 0) q) .1;
       };
     }
@@ -188,13 +194,17 @@ second t h rest at = go (eqb t (code "t")) (eqb t (code "T")) refl refl (either-
     go false true p q e = refl
     go false false p q e = absurd (never e)
 
-time-fits : (t k : ℕ) → has (ascii "tT") t ≡ true → inTable needs t k ≡ false
+-- what a table says of t and T, where one row has them, with kind 8 alone
+pub eight : (k : ℕ) → ((eqb 8 k || false) || false) ≡ eqb k 8
+eight k = elim (ℕ-discrete k 8) [ yes p ↦ rw p refl | no q ↦ simp (ne-eqb k 8 q, ne-eqb 8 k (λ e. q (sym e))) ]
+
+time-fits : (t k : ℕ) → has (ascii "tT") t ≡ true → inTable needs t k ≡ eqb k 8
 unfolding has
 time-fits t k h = go (eqb t (code "t")) (eqb t (code "T")) refl refl (either-time t h)
   where
-    go : (a b : Bool) → eqb t (code "t") ≡ a → eqb t (code "T") ≡ b → (a || b) ≡ true → inTable needs t k ≡ false
-    go true b p q e = ap (λ (x : ℕ). inTable needs x k) (eqb-true t (code "t") p)
-    go false true p q e = ap (λ (x : ℕ). inTable needs x k) (eqb-true t (code "T") q)
+    go : (a b : Bool) → eqb t (code "t") ≡ a → eqb t (code "T") ≡ b → (a || b) ≡ true → inTable needs t k ≡ eqb k 8
+    go true b p q e = ap (λ (x : ℕ). inTable needs x k) (eqb-true t (code "t") p) ∙ eight k
+    go false true p q e = ap (λ (x : ℕ). inTable needs x k) (eqb-true t (code "T") q) ∙ eight k
     go false false p q e = absurd (never e)
 
 time-capital : (t : ℕ) → has (ascii "tT") t ≡ true → eqb t (code "T") ≡ has capitals t
@@ -202,9 +212,9 @@ unfolding all has
 time-capital t h = same-is (eqb t (code "T")) (has capitals t) (all-has (λ t. same (eqb t (code "T")) (has capitals t)) (ascii "tT") t refl h)
 
 time-letter : (t l : ℕ) → has (ascii "tT") t ≡ true → has timeLetters l ≡ true → SomeLetter (t ∷ l ∷ [])
-time-letter t l h i = go (timeOf l) refl (all-has (λ b. isComponent (timeOf b)) timeLetters l all-times i)
+time-letter t l h i = go (timeOf l) refl (all-has (λ b. namesTime (timeOf b) b) timeLetters l all-times i)
   where
-    go : (x : TimeLetter) → timeOf l ≡ x → isComponent x ≡ true → SomeLetter (t ∷ l ∷ [])
+    go : (x : TimeLetter) → timeOf l ≡ x → namesTime x l ≡ true → SomeLetter (t ∷ l ∷ [])
     go (Component y) p r = record {
       conversion = Time y;
       upper = eqb t (code "T");
@@ -212,6 +222,7 @@ time-letter t l h i = go (timeOf l) refl (all-has (λ b. isComponent (timeOf b))
         read = λ rest at. second t h (l ∷ rest) at ∙ ap (λ (x : TimeLetter). timeLetter (eqb t (code "T")) x at) p;
         fits-as = λ k _. time-fits t k h;
         named = h;
+        component = r;
         capital = time-capital t h;
       };
     }

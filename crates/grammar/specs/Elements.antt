@@ -92,17 +92,17 @@ pub record Lettered (n : ℕ) (before : List Part) (r : List ℕ) (w : Written) 
   pub precise : Precise n before r w (w .letter ++ rest)
   pub letter : IsLetter (w .letter)
 
--- The letter fits the kind, which is one of 1 to 7, by its byte without a null mark: "b needs 6; c, d, o, x need 1 to 4; e, f, g, a need 1 to 5; t and T fit
--- none of our kinds; s and h take all. Capitals likewise."
+-- The letter fits the kind, which is one of 1 to 8, by its byte without a null mark: "b needs 6; c, d, o, x need 1 to 4; e, f, g, a need 1 to 5; .. s and h
+-- take all. Capitals likewise." 02, E1: "Kind 8 fits t, T, s and h".
 abbrev pub kinds : List ℕ
-kinds = 1 ∷ 2 ∷ 3 ∷ 4 ∷ 5 ∷ 6 ∷ 7 ∷ []
+kinds = 1 ∷ 2 ∷ 3 ∷ 4 ∷ 5 ∷ 6 ∷ 7 ∷ 8 ∷ []
 
 abbrev pub needs : List (List ℕ × List ℕ)
 needs =
     (ascii "bB", 6 ∷ [])
     ∷ (ascii "cCdoxX", 1 ∷ 2 ∷ 3 ∷ 4 ∷ [])
     ∷ (ascii "eEfgGaA", 1 ∷ 2 ∷ 3 ∷ 4 ∷ 5 ∷ [])
-    ∷ (ascii "tT", [])
+    ∷ (ascii "tT", 8 ∷ [])
     ∷ (ascii "sShH", kinds)
     ∷ []
 

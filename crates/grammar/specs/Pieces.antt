@@ -2,13 +2,15 @@
 use Prim.Native.Nat.{ℕ, _+_, _≤_}
 use Prim.Native.Char.{code}
 use mathlib.Core.Path.{_≡_}
-use mathlib.Core.Bool.{true}
+use mathlib.Core.Bool.{Bool, true}
 use mathlib.Core.List.{List, [], _∷_, _++_}
 use mathlib.Core.Option.{Option, none, some}
-use lib.ListN.{length}
+use lib.ListN.{length, drop}
 use Rattle.writing.specs.Text.{ascii, has}
 use Rattle.numerals.specs.declared.Radix.the-variants.{Decimal, Octal, Hexadecimal}
 use Rattle.params.specs.declared.NumericParam.{NumericParam}
+use Rattle.letters.specs.declared.TimeFormat.{TimeFormat}
+use Rattle.letters.specs.declared.TimeFormat.the-variants as T
 use Rattle.letters.specs.declared.ConversionType.{ConversionType}
 use Rattle.letters.specs.declared.ConversionType.the-variants as C
 use Rattle.params.specs.declared.NumericParam.the-variants.{Literal, FromArgument}
@@ -55,11 +57,54 @@ lettersOf C.DecimalFloat = ascii "eEfgG"
 lettersOf C.HexFloat = ascii "aA"
 lettersOf (C.Time t) = ascii "tT"
 
+-- The letter behind t or T of each component, "with `h` read as `b`"; behind other letters none stands.
+abbrev pub componentLetters : TimeFormat → List ℕ
+componentLetters T.HUpper = ascii "H"
+componentLetters T.IUpper = ascii "I"
+componentLetters T.KLower = ascii "k"
+componentLetters T.LLower = ascii "l"
+componentLetters T.MUpper = ascii "M"
+componentLetters T.SUpper = ascii "S"
+componentLetters T.LUpper = ascii "L"
+componentLetters T.NUpper = ascii "N"
+componentLetters T.PLower = ascii "p"
+componentLetters T.ZLower = ascii "z"
+componentLetters T.ZUpper = ascii "Z"
+componentLetters T.SLower = ascii "s"
+componentLetters T.QUpper = ascii "Q"
+componentLetters T.BUpper = ascii "B"
+componentLetters T.BLower = ascii "bh"
+componentLetters T.AUpper = ascii "A"
+componentLetters T.ALower = ascii "a"
+componentLetters T.CUpper = ascii "C"
+componentLetters T.YUpper = ascii "Y"
+componentLetters T.YLower = ascii "y"
+componentLetters T.JLower = ascii "j"
+componentLetters T.MLower = ascii "m"
+componentLetters T.DLower = ascii "d"
+componentLetters T.ELower = ascii "e"
+componentLetters T.RUpper = ascii "R"
+componentLetters T.TUpper = ascii "T"
+componentLetters T.RLower = ascii "r"
+componentLetters T.DUpper = ascii "D"
+componentLetters T.FUpper = ascii "F"
+componentLetters T.CLower = ascii "c"
+
+abbrev pub namesComponent : ConversionType → List ℕ → Bool
+namesComponent C.Boolean behind = true
+namesComponent C.HexHash behind = true
+namesComponent C.String behind = true
+namesComponent C.Char behind = true
+namesComponent (C.Integer r) behind = true
+namesComponent C.DecimalFloat behind = true
+namesComponent C.HexFloat behind = true
+namesComponent (C.Time t) behind = begins (has (componentLetters t)) behind
+
 abbrev pub capitals : List ℕ
 capitals = ascii "BHSCXEGAT"
 
--- An element holds what is written: which flags occur, its numbers, the conversion of its letter and whether that is a capital. (`letter` is the parser's own
--- reading of the letter, with the component behind t and T.)
+-- An element holds what is written: which flags occur, its numbers, the conversion of its letter, of t and T the component, and whether it is a capital.
+-- (`letter` is the parser's own reading of the letter.)
 pub record ElementIs (e : Element) (w : Written) : Type 0 where
   pub argument : e .argument ≡ w .argument
   pub flags : e .flags
@@ -75,6 +120,7 @@ pub record ElementIs (e : Element) (w : Written) : Type 0 where
   pub width : e .width ≡ paramRead (w .width)
   pub precision : e .precision ≡ precisionRead (w .precision)
   pub conversion : begins (has (lettersOf (e .conversion))) (w .letter) ≡ true
+  pub component : namesComponent (e .conversion) (drop 1 (w .letter)) ≡ true
   pub upper : e .upper ≡ begins (has capitals) (w .letter)
   pub letter : letterFrom (w .letter) 0 ≡ L.Read (e .conversion) (e .upper) (length (w .letter))
 

@@ -37,7 +37,8 @@ unfoldable pub endsFrom : ℕ → List (List ℕ) → List ℕ
 endsFrom n [] = []
 endsFrom n (t ∷ ts) = (n + length t) ∷ endsFrom (n + length t) ts
 
--- "then 15 and 16 left to right over a format that passed": the first piece that is not printed. "Place is the offset of the element's `%`".
+-- "then 15 and 16 left to right over a format that passed", and 18 "comes with 15 and 16" (02, E1): the first piece that is not printed.
+-- "Place is the offset of the element's `%`".
 pub record Stop : Type 0 where
   pub number : ℕ
   pub place : ℕ
@@ -60,7 +61,7 @@ measuredEnd s row Finished =
     unlessStopped (firstStop s row (placed s (kindsOf row))) (Accepted (length (printedText s row)) (length (placed s (kindsOf row))))
 measuredEnd s row (Stopped number place) = Refused number place
 
--- "Order: 1, 2, .. 14; then pieces left to right ..; then 15 and 16".
+-- "Order: 1, 2, .. 14; then pieces left to right ..; then 15 and 16", with 18 (02, E1).
 unfoldable pub measured : List ℕ → List ℕ → Outcome
 measured s row =
     choose (ltb mostFormat (length s)) (λ _. Refused 1 0)

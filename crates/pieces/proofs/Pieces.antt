@@ -53,6 +53,7 @@ module _ (e : Element) (t u : List ℕ) (v k : ℕ) (h : isText k ≡ true → u
   element-cut =
       form-of (λ f. valueText e f (isNull k) (cutTo (e .precision) u) v ≡ valueText e f (isNull k) t v) (λ _. Unit {0}) (k % 128) refl (λ f w _. refl) refl refl
       (λ q. ap (λ (x : List ℕ). Text (paddedText e NoMark x)) (cut-again (e .precision) u ∙ ap (cutTo (e .precision)) (h q)))
+      (λ x. refl)
       (e .conversion)
 
 module _ (s row : List ℕ) (e : Element) where

@@ -1,10 +1,11 @@
-// 01's table, "What stops a call": the number of each refusal, with the table's words, in its order; and the limits that it names.
+// 01's table, "What stops a call": the number of each refusal, with the table's words, in its order, and those that later requests add; and the
+// limits that it names.
 
 // format over 4,096 bytes
 pub const LONG_FORMAT: u8 = 1;
 // format not UTF-8
 pub const MALFORMED_FORMAT: u8 = 2;
-// over 64 kinds, or a kind not 1 to 7 (checking)
+// over 64 kinds, or a kind not 1 to 8 (checking)
 pub const BAD_KINDS: u8 = 3;
 // row breaks its layout
 pub const BROKEN_ROW: u8 = 14;
@@ -34,6 +35,8 @@ pub const NOT_PRINTED: u8 = 15;
 pub const NO_SCALAR: u8 = 16;
 // text longer than output or than 4,294,967,295, or more pieces than ends (printing only)
 pub const NO_ROOM: u8 = 17;
+// 02, E1: a negative timestamp that is not a whole second, under t or T
+pub const NO_WHOLE_SECOND: u8 = 18;
 
 // The most bytes of a format, kinds of a check, and pieces.
 pub const MOST_FORMAT: usize = 4096;

@@ -6,7 +6,7 @@ ghost use mathlib.Core.Path.{_≡_};
 ghost use mathlib.Core.List.{map};
 ghost use Prim.Native.Nat.{_≤_, _<_};
 ghost use lib.ListN.{length};
-ghost use Rattle.writing.specs.Writers.{Wrote};
+ghost use Rattle.writing.specs.Writers.{Wrote, Put};
 ghost use Rattle.strings.specs.Cut.{backTo, cutLength, cutTo, capital, cased};
 
 // The last place up to n that does not stand inside a character.
@@ -85,4 +85,14 @@ pub fn write_cased(out: &mut [u8], text: &[u8], upper: bool) -> usize
         return write_upper(out, text);
     }
     writing::write_text(out, text)
+}
+
+// Copies a text, in capitals where upper is set, where there is room for it. Answers its length.
+pub fn put_cased(out: &mut [u8], text: &[u8], upper: bool) -> usize
+    ensures { λ r. ⌜ Put (now (out .entry)) (cased upper (now (text .entry))) r (now (out .exit)) ⌝ }
+{
+    if text.len() <= out.len() {
+        write_cased(out, text, upper);
+    }
+    text.len()
 }

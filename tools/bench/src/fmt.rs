@@ -49,19 +49,20 @@ pub struct Fmt {
 }
 
 impl Fmt {
-    /// With the format read in each call, and with the compiled one; neither where {fmt} is not installed.
+    /// With the format read in each call, and with the compiled one; neither where {fmt} is not installed, or not given the row.
     pub fn both(row: &Row, in_c: &InC) -> Vec<Fmt> {
+        let Some(format) = in_c.fmt.as_ref().filter(|_| cfg!(has_fmt)) else { return vec![] };
         let fmt = |way| Fmt {
             way,
             shape: in_c.shape as c_int,
-            format: in_c.fmt.clone(),
+            format: format.clone(),
             integers: row.integers(),
             float: row.float(),
             text: row.text(),
             boolean: row.boolean(),
             out: vec![0; ROOM],
         };
-        if cfg!(has_fmt) { vec![fmt(Way::Runtime), fmt(Way::Compiled)] } else { vec![] }
+        vec![fmt(Way::Runtime), fmt(Way::Compiled)]
     }
 
     pub fn run(&mut self, calls: u64) -> u64 {
@@ -83,6 +84,10 @@ impl Fmt {
         };
         assert_ne!(sum, 0, "calls_fmt.cpp has no {format}");
         sum
+    }
+
+    pub fn format(&self) -> &str {
+        &self.format
     }
 
     pub fn text(&self) -> &[u8] {

@@ -12,10 +12,8 @@ use std::path::Path;
 use std::process::ExitCode;
 use std::{env, fs, thread};
 
-use original::Formatter;
-
 use fmt::Fmt;
-use others::Java;
+use others::{Java, Original};
 use panel::{Panel, Snprintf};
 use rows::{Call, Row, SHEET_LINE, Series};
 use timing::Calls;
@@ -99,6 +97,7 @@ fn tables(folder: &Path) {
     }
 }
 
+#[derive(Default)]
 struct Measured {
     panel: f64,
     parse_and_format: Option<f64>,
@@ -130,52 +129,52 @@ fn measure(folder: &Path, row: &Row) -> Measured {
     let mut panel = Panel::new(row);
     let Some(in_c) = &row.in_c else {
         let least = timing::least(&mut [Box::new(|calls| panel.run(calls)) as Calls]);
-        return Measured {
-            panel: least[0],
-            parse_and_format: None,
-            format_only: None,
-            snprintf: None,
-            fmt: None,
-            fmt_compiled: None,
-            java: None,
-        };
+        return Measured { panel: least[0], ..Measured::default() };
     };
-    let (types, values) = (row.data_types(), row.scalars());
-    let formatter = Formatter::parse(&row.format, &types).expect("accepted");
-    let text = formatter.format(&values).expect("printed");
+    let original = Original::new(row);
     let mut snprintf = Snprintf::new(row, in_c);
     let mut fmts = Fmt::both(row, in_c);
-    panel.run(1);
-    assert_eq!(panel.text(text.len()), text.as_bytes(), "{}: this library and the original differ", row.name);
-    snprintf.run(1);
-    assert_eq!(snprintf.text() == text.as_bytes(), in_c.same, "{}: snprintf says {:?}", row.name, snprintf.text());
-    for fmt in &mut fmts {
-        fmt.run(1);
-        assert_eq!(fmt.text() == text.as_bytes(), in_c.same, "{}: {{fmt}} says {:?}", row.name, fmt.text());
-    }
-    if let [runtime, compiled] = &fmts[..] {
-        assert_eq!(compiled.text(), runtime.text(), "{}: {{fmt}} compiled differs", row.name);
-    }
     let java = others::java(folder, row);
-    if let Some(java) = &java {
-        assert_eq!(java.text, text, "{}: Java and the original differ", row.name);
-    }
-    let mut subjects: Vec<Calls> = vec![
-        Box::new(|calls| panel.run(calls)),
-        Box::new(|calls| others::parse_and_format(&row.format, &types, &values, calls)),
-        Box::new(|calls| others::format_only(&formatter, &values, calls)),
-        Box::new(|calls| snprintf.run(calls)),
-    ];
+    panel.run(1);
+    look_at_texts(row, panel.text(), original.as_ref(), java.as_ref());
+    look_at_texts_in_c(row, panel.text(), &mut snprintf, &mut fmts, in_c.same);
+
+    let mut subjects: Vec<Calls> = vec![Box::new(|calls| panel.run(calls)), Box::new(|calls| snprintf.run(calls))];
+    let of_fmt = subjects.len();
     subjects.extend(fmts.iter_mut().map(|fmt| Box::new(|calls| fmt.run(calls)) as Calls));
+    let of_original = subjects.len();
+    subjects.extend(original.iter().flat_map(|original| original.both()));
     let least = timing::least(&mut subjects);
+    let (fmt, original) = (&least[of_fmt..of_original], &least[of_original..]);
     Measured {
         panel: least[0],
-        parse_and_format: Some(least[1]),
-        format_only: Some(least[2]),
-        snprintf: Some(least[3]),
-        fmt: least.get(4).copied(),
-        fmt_compiled: least.get(5).copied(),
+        parse_and_format: original.first().copied(),
+        format_only: original.get(1).copied(),
+        snprintf: Some(least[1]),
+        fmt: fmt.first().copied(),
+        fmt_compiled: fmt.get(1).copied(),
         java,
+    }
+}
+
+fn look_at_texts(row: &Row, text: &[u8], original: Option<&Original>, java: Option<&Java>) {
+    if let Some(original) = original {
+        assert_eq!(original.text().as_bytes(), text, "{}: this library and the original differ", row.name);
+    }
+    if let Some(java) = java {
+        assert_eq!(java.text.as_bytes(), text, "{}: this library and Java differ", row.name);
+    }
+}
+
+fn look_at_texts_in_c(row: &Row, text: &[u8], snprintf: &mut Snprintf, fmts: &mut [Fmt], same: bool) {
+    snprintf.run(1);
+    assert_eq!(snprintf.text() == text, same, "{}: snprintf says {:?}", row.name, snprintf.text());
+    for fmt in fmts.iter_mut() {
+        fmt.run(1);
+        assert_eq!(fmt.text() == text, same, "{}: {{fmt}} says {:?}", row.name, fmt.text());
+    }
+    if let [runtime, compiled] = fmts {
+        assert_eq!(compiled.text(), runtime.text(), "{}: {{fmt}} compiled differs", row.name);
     }
 }
 
@@ -227,7 +226,7 @@ fn notes(compared: &[Row]) {
         printed("snprintf", &in_c.format, snprintf.text());
         if let Some(fmt) = Fmt::both(row, in_c).first_mut() {
             fmt.run(1);
-            printed("{fmt}", &in_c.fmt, fmt.text());
+            printed("{fmt}", fmt.format(), fmt.text());
         }
     }
 }

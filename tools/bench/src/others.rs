@@ -9,26 +9,53 @@ use datafusion_common::ScalarValue;
 use original::Formatter;
 
 use crate::rows::{Call, Row};
+use crate::timing::Calls;
 
-/// The original, parsing and formatting in each call.
-pub fn parse_and_format(format: &str, types: &[DataType], values: &[ScalarValue], calls: u64) -> u64 {
-    let mut sum = 0;
-    for _ in 0..calls {
-        let formatter = Formatter::parse(black_box(format), black_box(types)).expect("accepted");
-        let text = formatter.format(black_box(values)).expect("printed");
-        sum += black_box(text).len() as u64;
-    }
-    sum
+/// The original on one row.
+pub struct Original<'a> {
+    format: &'a str,
+    types: Vec<DataType>,
+    values: Vec<ScalarValue>,
 }
 
-/// The original, formatting what was parsed before.
-pub fn format_only(formatter: &Formatter, values: &[ScalarValue], calls: u64) -> u64 {
-    let mut sum = 0;
-    for _ in 0..calls {
-        let text = black_box(formatter).format(black_box(values)).expect("printed");
-        sum += black_box(text).len() as u64;
+impl<'a> Original<'a> {
+    /// Nothing where the original is not given the row.
+    pub fn new(row: &'a Row) -> Option<Original<'a>> {
+        let (types, values) = row.in_original()?;
+        Some(Original { format: &row.format, types, values })
     }
-    sum
+
+    pub fn text(&self) -> String {
+        self.parsed().format(&self.values).expect("printed")
+    }
+
+    fn parsed(&self) -> Formatter<'_> {
+        Formatter::parse(black_box(self.format), black_box(&self.types)).expect("accepted")
+    }
+
+    fn parse_and_format(&self, calls: u64) -> u64 {
+        let mut sum = 0;
+        for _ in 0..calls {
+            let text = self.parsed().format(black_box(&self.values)).expect("printed");
+            sum += black_box(text).len() as u64;
+        }
+        sum
+    }
+
+    fn format_only(&self, formatter: &Formatter, calls: u64) -> u64 {
+        let mut sum = 0;
+        for _ in 0..calls {
+            let text = black_box(formatter).format(black_box(&self.values)).expect("printed");
+            sum += black_box(text).len() as u64;
+        }
+        sum
+    }
+
+    /// Parsing and formatting in each call, and formatting what was parsed before.
+    pub fn both(&self) -> [Calls<'_>; 2] {
+        let formatter = self.parsed();
+        [Box::new(|calls| self.parse_and_format(calls)), Box::new(move |calls| self.format_only(&formatter, calls))]
+    }
 }
 
 pub struct Java {

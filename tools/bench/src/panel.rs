@@ -23,6 +23,7 @@ unsafe extern "C" {
         n: *const c_int,
         f: f64,
         s: *const c_char,
+        t: i64,
         out: *mut c_char,
         out_len: usize,
         calls: u64,
@@ -76,20 +77,20 @@ impl Panel {
         }
     }
 
-    /// The text left by the calls before, of the given length; the byte behind it must be untouched.
-    pub fn text(&self, length: usize) -> &[u8] {
-        assert_eq!(self.out[length], 0, "the text is longer");
-        &self.out[..length]
+    /// The text left by the calls before: no row's text has a byte 0, and the memory had nothing else.
+    pub fn text(&self) -> &[u8] {
+        CStr::from_bytes_until_nul(&self.out).expect("shorter than ROOM").to_bytes()
     }
 }
 
-/// snprintf on one row.
+/// snprintf on one row; of a moment gmtime_r and strftime.
 pub struct Snprintf {
     shape: c_int,
     format: CString,
     integers: Vec<c_int>,
     float: f64,
     text: CString,
+    seconds: i64,
     out: Vec<u8>,
 }
 
@@ -101,6 +102,7 @@ impl Snprintf {
             integers: row.integers(),
             float: row.float(),
             text: CString::new(row.text()).expect("no byte 0"),
+            seconds: row.seconds(),
             out: vec![0; ROOM],
         }
     }
@@ -114,6 +116,7 @@ impl Snprintf {
                 self.integers.as_ptr(),
                 self.float,
                 self.text.as_ptr(),
+                self.seconds,
                 self.out.as_mut_ptr().cast(),
                 self.out.len(),
                 calls,

@@ -10,6 +10,8 @@ pub enum Value {
     Float(f64),
     Boolean(bool),
     Text(&'static str),
+    /// Nanoseconds since 1970.
+    Time(i64),
 }
 
 impl Value {
@@ -20,27 +22,20 @@ impl Value {
             Value::Float(_) => 5,
             Value::Boolean(_) => 6,
             Value::Text(_) => 7,
+            Value::Time(_) => 8,
         }
     }
 
-    fn data_type(self) -> DataType {
-        match self {
-            Value::Int8(_) => DataType::Int8,
-            Value::Int32(_) => DataType::Int32,
-            Value::Float(_) => DataType::Float64,
-            Value::Boolean(_) => DataType::Boolean,
-            Value::Text(_) => DataType::Utf8,
-        }
-    }
-
-    fn scalar(self) -> ScalarValue {
-        match self {
-            Value::Int8(v) => ScalarValue::Int8(Some(v)),
-            Value::Int32(v) => ScalarValue::Int32(Some(v)),
-            Value::Float(v) => ScalarValue::Float64(Some(v)),
-            Value::Boolean(v) => ScalarValue::Boolean(Some(v)),
-            Value::Text(v) => ScalarValue::Utf8(Some(v.to_owned())),
-        }
+    /// As the original takes it; nothing for a time, since its calendar is chrono's, for which there is a stand-in here.
+    fn in_original(self) -> Option<(DataType, ScalarValue)> {
+        Some(match self {
+            Value::Int8(v) => (DataType::Int8, ScalarValue::Int8(Some(v))),
+            Value::Int32(v) => (DataType::Int32, ScalarValue::Int32(Some(v))),
+            Value::Float(v) => (DataType::Float64, ScalarValue::Float64(Some(v))),
+            Value::Boolean(v) => (DataType::Boolean, ScalarValue::Boolean(Some(v))),
+            Value::Text(v) => (DataType::Utf8, ScalarValue::Utf8(Some(v.to_owned()))),
+            Value::Time(_) => return None,
+        })
     }
 
     fn show(self) -> String {
@@ -50,6 +45,7 @@ impl Value {
             Value::Float(v) => format!("Float64 {v:?}"),
             Value::Boolean(v) => format!("{v}"),
             Value::Text(v) => format!("text `{v}`"),
+            Value::Time(v) => format!("time {v}"),
         }
     }
 
@@ -61,6 +57,7 @@ impl Value {
             Value::Float(v) => format!("d{v:?}"),
             Value::Boolean(v) => format!("z{v}"),
             Value::Text(v) => format!("x{v}"),
+            Value::Time(v) => format!("t{v}"),
         }
     }
 }
@@ -76,14 +73,16 @@ pub enum Shape {
     Four,
     Fifteen,
     Thirty,
+    /// To gmtime_r and strftime in the place of snprintf.
+    Moment,
 }
 
 /// What snprintf and {fmt} are given.
 pub struct InC {
     pub shape: Shape,
     pub format: String,
-    /// {fmt}'s format.
-    pub fmt: String,
+    /// {fmt}'s format, where it is given the row.
+    pub fmt: Option<String>,
     /// Whether their text is the same as this library's.
     pub same: bool,
 }
@@ -111,8 +110,14 @@ impl Row {
     }
 
     fn compared(name: &str, format: &str, fmt: &str, values: Vec<Value>, shape: Shape) -> Row {
-        let in_c = InC { shape, format: format.to_owned(), fmt: fmt.to_owned(), same: true };
+        let in_c = InC { shape, format: format.to_owned(), fmt: Some(fmt.to_owned()), same: true };
         Row { in_c: Some(in_c), ..Row::alone(name, Call::Print, format.to_owned(), values) }
+    }
+
+    /// A moment: the format of strftime is another, and {fmt} is not asked.
+    fn moment(name: &str, format: &str, strftime: &str, nanoseconds: i64) -> Row {
+        let in_c = InC { shape: Shape::Moment, format: strftime.to_owned(), fmt: None, same: true };
+        Row { in_c: Some(in_c), ..Row::alone(name, Call::Print, format.to_owned(), vec![Value::Time(nanoseconds)]) }
     }
 
     /// With another format for snprintf, or the same one, and another text from it and from {fmt}.
@@ -138,6 +143,7 @@ impl Row {
                     text.extend(v.as_bytes());
                     word
                 }
+                Value::Time(v) => v as u64,
             });
         }
         let mut bytes = Vec::new();
@@ -149,12 +155,9 @@ impl Row {
         bytes
     }
 
-    pub fn data_types(&self) -> Vec<DataType> {
-        self.values.iter().map(|v| v.data_type()).collect()
-    }
-
-    pub fn scalars(&self) -> Vec<ScalarValue> {
-        self.values.iter().map(|v| v.scalar()).collect()
+    /// The types and values that the original is given, where it is given the row.
+    pub fn in_original(&self) -> Option<(Vec<DataType>, Vec<ScalarValue>)> {
+        self.values.iter().map(|v| v.in_original()).collect()
     }
 
     pub fn java(&self) -> Vec<String> {
@@ -193,12 +196,20 @@ impl Row {
         let text = |v: &Value| if let Value::Text(v) = *v { Some(v) } else { None };
         self.values.iter().find_map(text).unwrap_or("")
     }
+
+    /// The whole seconds of its moment.
+    pub fn seconds(&self) -> i64 {
+        let seconds = |v: &Value| if let Value::Time(v) = *v { Some(v.div_euclid(1_000_000_000)) } else { None };
+        self.values.iter().find_map(seconds).unwrap_or(0)
+    }
 }
 
 pub const SHEET_LINE: &str = "sheet line";
 const NUMBER: Value = Value::Int32(1_234_567);
 const POSITION: Value = Value::Int32(0x1a2b3c);
 const PI: Value = Value::Float(std::f64::consts::PI);
+/// 2026-11-15T07:05:09.025Z.
+const MOMENT: i64 = 1_794_726_309_025_000_000;
 
 /// The rows of the first table; the last is measured and timed for this library alone.
 pub fn compared() -> Vec<Row> {
@@ -226,6 +237,7 @@ pub fn compared() -> Vec<Row> {
         Row::compared("`%a`", "%a", "{:a}", vec![PI], Shape::Floating).differing("%a"),
         Row::compared("`%.6a`", "%.6a", "{:.6a}", vec![PI], Shape::Floating).differing("%.6a"),
         Row::compared("`%20.8s`", "%20.8s", "{:>20.8s}", vec![Value::Text("North weir, left gate")], Shape::Text),
+        Row::moment("`%tF %<tT`", "%tF %<tT", "%F %T", MOMENT),
         Row::compared("15 times `%d` and a space", &"%d ".repeat(15), &"{} ".repeat(15), integers(15), Shape::Fifteen),
         Row::compared("30 times `%d`", &"%d".repeat(30), &"{}".repeat(30), integers(30), Shape::Thirty),
         Row::compared("200 bytes of text", &plain(200), &plain(200), vec![], Shape::Nothing),

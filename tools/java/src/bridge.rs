@@ -9,9 +9,10 @@
 //! | %a of zero | without precision |
 //! | %a of a subnormal, no precision or above 13 | precision 13 |
 //! | %a with `0` and precision | without `0` and width; zeros are put behind `0x` afterwards |
+//! | %t with flags, width or precision | without them |
 
 use crate::case::{Value, escape};
-use crate::classes::start_at;
+use crate::elements::start_at;
 use crate::format::Element;
 
 #[derive(Debug, Clone)]
@@ -34,11 +35,9 @@ impl Bridge {
     /// For an element that the library prints.
     pub fn of(element: &Element, value: &Value) -> Self {
         let letter = element.letter as char;
-        let string = if element.capital() { 'S' } else { 's' };
-        let plain = |request: String| Bridge { request, after: After::Nothing };
         match (element.small(), value) {
             (_, Value::Integer(_, None)) => {
-                plain(format!("%{}{}{string}\tn", minus(element), cut(element.precision())))
+                plain(format!("%{}{}{}\tn", minus(element), cut(element.precision()), string_letter(element)))
             }
             (b'd', Value::Integer(_, Some(value))) if *value < 0 && element.has(b'-') && element.has(b'(') => {
                 let width = element.width().unwrap_or(0).saturating_sub(2);
@@ -49,14 +48,7 @@ impl Bridge {
             (b'o' | b'x', _) => {
                 plain(format!("%{}{}{letter}\t{}", kept(element, b"#"), padding(element), value.request()))
             }
-            (b'c', Value::Integer(_, Some(value))) => {
-                let character = u32::try_from(*value).ok().and_then(char::from_u32).expect("a scalar value");
-                if character.is_ascii() {
-                    return plain(format!("%{}{letter}\ti{value}", minus(element)));
-                }
-                let bytes = escape(character.to_string().as_bytes());
-                Bridge { request: format!("%{}{string}\ty{bytes}", minus(element)), after: After::BytesBack }
-            }
+            (b'c', Value::Integer(_, Some(value))) => character(element, *value),
             (b's', Value::Text(text)) if !text.is_ascii() => {
                 let precision = element.precision().map(|precision| start_at(text, precision));
                 let request = format!("%{}{}{letter}\ty{}", minus(element), cut(precision), escape(text.as_bytes()));
@@ -65,24 +57,8 @@ impl Bridge {
             (b's' | b'b', _) => {
                 plain(format!("%{}{}{letter}\t{}", minus(element), cut(element.precision()), value.request()))
             }
-            (b'a', Value::Float(number)) => {
-                let bits = number.to_bits() & (u64::MAX >> 1);
-                let precision = match element.precision() {
-                    _ if bits == 0 => None,
-                    None if bits < 1 << 52 => Some(13),
-                    Some(14..) if bits < 1 << 52 => Some(13),
-                    precision => precision,
-                };
-                let marks = kept(element, b"+ ");
-                let zeros = element.has(b'0') && !element.has(b'-') && number.is_finite();
-                match (element.width(), precision) {
-                    (Some(width), Some(_)) if zeros => Bridge {
-                        request: format!("%{marks}{}{letter}\t{}", cut(precision), value.request()),
-                        after: After::ZerosTo(width),
-                    },
-                    _ => plain(format!("%{marks}{}{}{letter}\t{}", padding(element), cut(precision), value.request())),
-                }
-            }
+            (b'a', Value::Float(number)) => float(element, *number),
+            (b't', Value::Time(_)) => plain(format!("%{letter}{}\t{}", element.component as char, value.request())),
             _ => unreachable!("the library refuses it"),
         }
     }
@@ -102,6 +78,43 @@ impl Bridge {
             }
         }
     }
+}
+
+fn plain(request: String) -> Bridge {
+    Bridge { request, after: After::Nothing }
+}
+
+fn character(element: &Element, value: i64) -> Bridge {
+    let character = u32::try_from(value).ok().and_then(char::from_u32).expect("a scalar value");
+    if character.is_ascii() {
+        return plain(format!("%{}{}\ti{value}", minus(element), element.letter as char));
+    }
+    let bytes = escape(character.to_string().as_bytes());
+    let request = format!("%{}{}\ty{bytes}", minus(element), string_letter(element));
+    Bridge { request, after: After::BytesBack }
+}
+
+fn float(element: &Element, number: f64) -> Bridge {
+    let (letter, value) = (element.letter as char, Value::Float(number).request());
+    let bits = number.to_bits() & (u64::MAX >> 1);
+    let precision = match element.precision() {
+        _ if bits == 0 => None,
+        None if bits < 1 << 52 => Some(13),
+        Some(14..) if bits < 1 << 52 => Some(13),
+        precision => precision,
+    };
+    let marks = kept(element, b"+ ");
+    let zeros = element.has(b'0') && !element.has(b'-') && number.is_finite();
+    match (element.width(), precision) {
+        (Some(width), Some(_)) if zeros => {
+            Bridge { request: format!("%{marks}{}{letter}\t{value}", cut(precision)), after: After::ZerosTo(width) }
+        }
+        _ => plain(format!("%{marks}{}{}{letter}\t{value}", padding(element), cut(precision))),
+    }
+}
+
+fn string_letter(element: &Element) -> char {
+    if element.capital() { 'S' } else { 's' }
 }
 
 /// Those of the flags that the element has, each once.

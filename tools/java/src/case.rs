@@ -12,6 +12,8 @@ pub enum Value {
     Boolean(Option<bool>),
     /// Kind 7.
     Text(String),
+    /// Kind 8, in nanoseconds.
+    Time(i64),
 }
 
 impl Value {
@@ -34,6 +36,7 @@ impl Value {
             Value::Boolean(None) => "Boolean null".into(),
             Value::Text(text) if text.len() > 300 => format!("text of {} bytes", text.len()),
             Value::Text(text) => format!("text {text:?}"),
+            Value::Time(nanos) => format!("timestamp {nanos}"),
         }
     }
 
@@ -53,6 +56,7 @@ impl Value {
             }
             Value::Boolean(value) => u64::from(value.is_none()),
             Value::Text(text) => 2 * text.len() as u64 + u64::from(text.chars().any(char::is_control)),
+            Value::Time(nanos) => 2 * digits(*nanos) + u64::from(*nanos < 0),
         }
     }
 
@@ -64,6 +68,7 @@ impl Value {
             Value::Float(value) => format!("d{:016x}", value.to_bits()),
             Value::Boolean(Some(value)) => if *value { "zt" } else { "zf" }.into(),
             Value::Text(text) => format!("x{}", escape(text.as_bytes())),
+            Value::Time(nanos) => format!("u{nanos}"),
         }
     }
 }
@@ -124,6 +129,7 @@ impl Case {
                 Value::Float(value) => (5, value.to_bits()),
                 Value::Boolean(Some(value)) => (6, u64::from(*value)),
                 Value::Boolean(None) => (6 | 128, 0),
+                Value::Time(nanos) => (8, *nanos as u64),
                 Value::Text(part) => {
                     let offset = text.len() as u64;
                     text.extend_from_slice(part.as_bytes());

@@ -1,5 +1,7 @@
 //! Reads a format by a grammar that holds Java's and the library's:
-//! `%`, digits and `$`, flags and `<` in any order, digits, `.` and digits or none, a letter.
+//! `%`, digits and `$`, flags and `<` in any order, digits, `.` and digits or none, a letter, and a second one behind t and T.
+
+use crate::clock::COMPONENTS;
 
 #[derive(Debug, Clone)]
 pub enum Piece {
@@ -20,11 +22,16 @@ pub struct Element {
     pub point: bool,
     pub precision: Option<String>,
     pub letter: u8,
+    /// The letter behind t or T, else 0.
+    pub component: u8,
     /// The position of the value that it takes, if there is one.
     pub argument: Option<usize>,
 }
 
+/// The letters that are printed for kinds 1 to 7.
 pub const LETTERS: &[u8] = b"bBsScCdoxXaA";
+/// Those that are not printed for any kind.
+pub const UNPRINTED: &[u8] = b"hHeEfgG";
 pub const FLAGS: &[u8] = b"#0- +,(";
 
 impl Element {
@@ -76,16 +83,8 @@ pub fn read(format: &[u8], count: usize) -> Vec<Piece> {
                     return pieces;
                 };
                 if !element.is_fixed() {
-                    let wanted: Option<usize> = if element.has(b'<') {
-                        last
-                    } else if let Some(digits) = &element.index {
-                        Some(digits.parse::<usize>().map_or(usize::MAX, |index| index.wrapping_sub(1)))
-                    } else {
-                        running += 1;
-                        Some(running - 1)
-                    };
-                    last = wanted;
-                    element.argument = wanted.filter(|&argument| argument < count);
+                    last = wanted(&element, &mut running, last);
+                    element.argument = last.filter(|&argument| argument < count);
                 }
                 pieces.push(Piece::Element(element));
                 at = end;
@@ -95,6 +94,18 @@ pub fn read(format: &[u8], count: usize) -> Vec<Piece> {
         at += 2;
     }
     pieces
+}
+
+/// The position that the element names, perhaps one without a value; nothing for `<` before any element.
+fn wanted(element: &Element, running: &mut usize, last: Option<usize>) -> Option<usize> {
+    if element.has(b'<') {
+        return last;
+    }
+    if let Some(digits) = &element.index {
+        return Some(digits.parse::<usize>().map_or(usize::MAX, |index| index.wrapping_sub(1)));
+    }
+    *running += 1;
+    Some(*running - 1)
 }
 
 fn element(format: &[u8], start: usize) -> Option<(Element, usize)> {
@@ -123,8 +134,10 @@ fn element(format: &[u8], start: usize) -> Option<(Element, usize)> {
         }
     }
     element.letter = *format.get(at)?;
-    assert!(!b"hHeEfgGtT".contains(&element.letter), "a letter that is not compared: {}", format.escape_ascii());
-    if !LETTERS.contains(&element.letter) && !element.is_fixed() {
+    if element.small() == b't' {
+        at += 1;
+        element.component = *format.get(at).filter(|component| COMPONENTS.contains(component))?;
+    } else if !LETTERS.contains(&element.letter) && !UNPRINTED.contains(&element.letter) && !element.is_fixed() {
         return None;
     }
     let small = |digits: &Option<String>| digits.as_ref().is_none_or(|digits| digits.parse::<i32>().is_ok());

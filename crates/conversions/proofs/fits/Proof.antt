@@ -26,4 +26,4 @@ fits-spec =
     (λ c. simp (c .before .enum-told5 .given .1) (c .is-integer2 .ensures))
     (λ c. simp (c .before .enum-told6 .given .1) (c .is-number .ensures))
     (λ c. simp (c .before .enum-told7 .given .1) (c .is-number2 .ensures))
-    (λ c. search needs))
+    (λ c. simp (c .enum-told8 .given .1)))

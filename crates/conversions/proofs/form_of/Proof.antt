@@ -20,6 +20,7 @@ form-of-spec =
     (λ c. search needs)
     (λ c κs. search needs)
     (λ c. search needs)
+    (λ c κs. search needs)
     (λ c. simp (c .before .enum-told .given .1) (c .only-if .ensures))
     (λ c. search needs)
     (λ c. simp (c .before .enum-told3 .given .1) (c .string-form .ensures))
@@ -27,4 +28,4 @@ form-of-spec =
     (λ c. simp (c .before .before .conversion .given .1) (c .integer-form2 .ensures))
     (λ c. search needs)
     (λ c. simp (c .before .enum-told6 .given .1) (c .only-if2 .ensures))
-    (λ c. search needs))
+    (λ c. simp (c .before .before .conversion2 .given .1) (c .only-if3 .ensures)))

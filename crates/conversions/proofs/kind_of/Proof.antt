@@ -17,4 +17,5 @@ kind-of-spec =
     (λ c. sym (ap kindOf (c .match .keys5)))
     (λ c. sym (ap kindOf (c .match .keys6)))
     (λ c. sym (ap kindOf (c .match .keys7)))
-    (λ c. let (((((((u, n1), n2), n3), n4), n5), n6), n7) = c .match .rest in simp ne-eqb))
+    (λ c. sym (ap kindOf (c .match .keys8)))
+    (λ c. let ((((((((u, n1), n2), n3), n4), n5), n6), n7), n8) = c .match .rest in simp ne-eqb))

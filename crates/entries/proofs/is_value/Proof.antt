@@ -21,6 +21,9 @@ enum-told-3 c = search needs
 is-part-requires : tie.Need-is-part-requires
 is-part-requires c κs = search needs
 
+enum-told-4 : tie.Need-enum-told-4
+enum-told-4 c = search needs
+
 returns : tie.Need-returns
 returns c = simp (c .before .before .kind .given .1) (c .is-signed .ensures)
 
@@ -33,6 +36,9 @@ returns-3 c = simp (c .enum-told2 .given .1)
 returns-4 : tie.Need-returns-4
 returns-4 c = simp (c .before .enum-told3 .given .1) (c .is-part .ensures)
 
+returns-5 : tie.Need-returns-5
+returns-5 c = search needs
+
 pub is-value-spec : {M : Type 1} → statement M
 is-value-spec =
     tie.close
@@ -43,7 +49,9 @@ is-value-spec =
     enum-told-2
     enum-told-3
     is-part-requires
+    enum-told-4
     returns
     returns-2
     returns-3
-    returns-4)
+    returns-4
+    returns-5)

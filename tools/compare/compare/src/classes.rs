@@ -4,6 +4,7 @@
 pub enum Class {
     LongFormat,
     NotUtf8,
+    NullTimestamp,
     LargeNumber,
     ManyPieces,
     LetterNotPrinted,
@@ -13,11 +14,13 @@ pub enum Class {
     Carry,
     WidePiece,
     ShortRoom,
+    NoChrono,
 }
 
-pub const CLASSES: [(Class, &str); 11] = [
+pub const CLASSES: [(Class, &str); 13] = [
     (Class::LongFormat, "format over 4,096 bytes: 1 expected, not sent to the original"),
     (Class::NotUtf8, "format not UTF-8: 2 expected, cannot be sent to the original"),
+    (Class::NullTimestamp, "kind byte 136: 14 expected, 3 in checking; the original has null timestamps"),
     (Class::LargeNumber, "number above 2,147,483,647: 6 expected, the original judges only what stands before it"),
     (Class::ManyPieces, "a 513th piece: 13 expected, the original has no bound"),
     (Class::LetterNotPrinted, "accepted letter that is not printed here: 15 expected, the original's text not used"),
@@ -27,6 +30,7 @@ pub const CLASSES: [(Class, &str); 11] = [
     (Class::Carry, "%a rounding into the leading 1: compared with this tool's own text"),
     (Class::WidePiece, "width above 40,000 or %a precision above 100,000: length compared, text not compared"),
     (Class::ShortRoom, "output or ends too short: 17 expected, the original has no bound"),
+    (Class::NoChrono, "a date without chrono: 18 and the number of pieces compared, the text not compared"),
 ];
 
 /// How many cases met each class.

@@ -7,8 +7,8 @@ use original::{ConversionSpecifier, ConversionType, FormatElement, Formatter, Nu
 
 use crate::classes::Class;
 use crate::generate::Case;
-use crate::hex_float;
 use crate::row::{Row, Value};
+use crate::{dates, hex_float};
 
 /// 01's number and the place of the piece at fault.
 #[derive(Debug, Clone, Copy, PartialEq, Eq)]
@@ -22,6 +22,8 @@ pub enum PieceText {
     Text(String),
     /// Too long for the original: the length alone.
     Length(u64),
+    /// A date, where chrono is not installed.
+    Unknown,
 }
 
 impl PieceText {
@@ -29,6 +31,7 @@ impl PieceText {
         match self {
             PieceText::Text(text) => text.len() as u64,
             PieceText::Length(length) => *length,
+            PieceText::Unknown => 0,
         }
     }
 }
@@ -37,7 +40,7 @@ impl PieceText {
 pub struct Accepted {
     pub pieces: u64,
     pub largest: u64,
-    /// Each piece's text, or the refusal 15 or 16.
+    /// Each piece's text, or the refusal 15, 16 or 18.
     pub printed: Result<Vec<PieceText>, Refusal>,
 }
 
@@ -70,6 +73,10 @@ fn answer(case: &Case, classes: &mut Vec<Class>) -> Result<Result<Accepted, Refu
         classes.push(Class::NotUtf8);
         return Ok(Err(Refusal { number: 2, place: 0 }));
     };
+    if case.row.has_null_timestamp() {
+        classes.push(Class::NullTimestamp);
+        return Ok(Err(Refusal { number: 14, place: 0 }));
+    }
     let reader = Reader { format, types: case.row.data_types() };
     if let Some(refusal) = reader.large_number()? {
         if refusal.number == 6 {
@@ -227,8 +234,11 @@ fn printed(
             return Ok(Err(Refusal { number: 15, place: reader.place_of_element(piece) }));
         }
         match element_text(spec, value, &row.scalar(argument), &mut met)? {
-            Some(text) => texts.push(text),
-            None => return Ok(Err(Refusal { number: 16, place: reader.place_of_element(piece) })),
+            Ok(text) => texts.push(text),
+            Err(number) => {
+                classes.extend(dates::class_of_refusal(number));
+                return Ok(Err(Refusal { number, place: reader.place_of_element(piece) }));
+            }
         }
     }
     if met.is_empty() {
@@ -261,17 +271,23 @@ fn is_printed_here(kind: u8, letter: ConversionType) -> bool {
         }
         5 => matches!(letter, HexFloatLower | HexFloatUpper),
         6 => matches!(letter, BooleanLower | BooleanUpper),
+        8 => matches!(letter, TimeLower(_) | TimeUpper(_)),
         _ => matches!(letter, StringLower | StringUpper),
     }
 }
 
-/// The text of an element, or nothing for a %c of no Unicode scalar value.
+/// The text of an element, or the number of its refusal in printing.
+pub type Outcome = Result<PieceText, u64>;
+
 fn element_text(
     spec: &ConversionSpecifier,
     value: Value,
     scalar: &ScalarValue,
     met: &mut Vec<Class>,
-) -> Result<Option<PieceText>, String> {
+) -> Result<Outcome, String> {
+    if let Value::Timestamp(Some(timestamp)) = value {
+        return dates::text(spec, timestamp, scalar, met);
+    }
     let width = match spec.width {
         NumericParam::Literal(width) => width,
         NumericParam::FromArgument => 0,
@@ -283,7 +299,7 @@ fn element_text(
         return Ok(text.map(|text| PieceText::Length(text.length().max(width as u64))));
     }
     if let Value::Float(float) = value {
-        return float_text(spec, float, scalar, met).map(Some);
+        return float_text(spec, float, scalar, met).map(Ok);
     }
     let negative_decimal = spec.conversion_type == ConversionType::DecInt && value.integer().is_some_and(|i| i < 0);
     if spec.negative_in_parentheses && negative_decimal && width == 1 {
@@ -293,13 +309,16 @@ fn element_text(
     original_text(spec, scalar)
 }
 
-fn original_text(spec: &ConversionSpecifier, scalar: &ScalarValue) -> Result<Option<PieceText>, String> {
+/// The original's messages in printing that stand for a number of 01's table.
+const NUMBERS_IN_PRINTING: [(&str, u64); 2] =
+    [("invalid Unicode scalar value for %c: ", 16), ("Invalid timestamp: ", 18)];
+
+pub fn original_text(spec: &ConversionSpecifier, scalar: &ScalarValue) -> Result<Outcome, String> {
     let mut text = String::new();
-    match spec.format(&mut text, scalar) {
-        Ok(()) => Ok(Some(PieceText::Text(text))),
-        Err(error) if error.to_string().starts_with("invalid Unicode scalar value for %c: ") => Ok(None),
-        Err(error) => Err(format!("the original refuses to print: {error}")),
-    }
+    let Err(error) = spec.format(&mut text, scalar) else { return Ok(Ok(PieceText::Text(text))) };
+    let message = error.to_string();
+    let found = NUMBERS_IN_PRINTING.iter().find(|(start, _)| message.starts_with(start));
+    found.map(|(_, number)| Err(*number)).ok_or(format!("the original refuses to print: {message}"))
 }
 
 /// %a: the original's text, or this tool's own where 01 lists an exception. That the two agree elsewhere, and differ on
@@ -322,11 +341,11 @@ fn float_text(
             met.push(Class::LargePrecision);
             sent.precision = NumericParam::Literal(LARGEST_PRECISION_SENT);
         }
-        return original_text(&sent, scalar)?.ok_or("%c expected".to_owned());
+        return original_text(&sent, scalar)?.map_err(refused_float);
     }
     let shown = precision.map(|p| p.min(LARGEST_PRECISION_SHOWN));
     let own = hex_float::unmarked(float, shown);
-    let own_text = padded(spec, float, own.text);
+    let own_text = hex_float::padded(spec, float, own.text);
     if large {
         met.push(Class::LargePrecision);
         let missing = precision.unwrap_or(0) - shown.unwrap_or(0);
@@ -336,40 +355,17 @@ fn float_text(
         met.push(Class::WidePiece);
         return Ok(PieceText::Length((own_text.len() + missing) as u64));
     }
-    let Some(PieceText::Text(original)) = original_text(spec, scalar)? else {
-        return Err("the original gave no text for a float".to_owned());
-    };
+    let original = original_text(spec, scalar)?.map_err(refused_float)?;
     met.extend(own.class);
+    let own_text = PieceText::Text(own_text);
     if own.class.is_some() != (original != own_text) {
         return Err(format!("the listed exceptions do not tell the original's {original:?} from {own_text:?}"));
     }
-    Ok(PieceText::Text(own_text))
+    Ok(own_text)
 }
 
-/// The mark, capitals and padding of a finite float.
-fn padded(spec: &ConversionSpecifier, float: f64, unmarked: String) -> String {
-    let mark = match () {
-        () if float.is_sign_negative() => "-",
-        () if spec.force_sign => "+",
-        () if spec.space_sign => " ",
-        () => "",
-    };
-    let width = match spec.width {
-        NumericParam::Literal(width) => width as usize,
-        NumericParam::FromArgument => 0,
-    };
-    let fill = width.saturating_sub(mark.len() + unmarked.len());
-    let text = if spec.left_adj {
-        format!("{mark}{unmarked}{}", " ".repeat(fill))
-    } else if spec.zero_pad {
-        format!("{mark}0x{}{}", "0".repeat(fill), &unmarked[2..])
-    } else {
-        format!("{}{mark}{unmarked}", " ".repeat(fill))
-    };
-    match spec.conversion_type {
-        ConversionType::HexFloatUpper => text.to_ascii_uppercase(),
-        _ => text,
-    }
+fn refused_float(number: u64) -> String {
+    format!("the original refuses a float as if it were {number}")
 }
 
 #[cfg(test)]

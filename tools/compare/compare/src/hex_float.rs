@@ -1,6 +1,8 @@
 //! %a by 01's words, over whole numbers: the judge where the original drops a zero or turns a carry into a digit, and
 //! a check of the original elsewhere. It covers normal floats, and subnormal ones with a precision below 13.
 
+use original::{ConversionSpecifier, ConversionType, NumericParam};
+
 use crate::classes::Class;
 
 pub struct HexFloat {
@@ -69,6 +71,32 @@ fn round_to_even(value: u64, dropped: u32) -> u64 {
     let rest = value & ((1 << dropped) - 1);
     let half = 1 << (dropped - 1);
     kept + u64::from(rest > half || (rest == half && kept % 2 == 1))
+}
+
+/// The mark, capitals and padding of a finite float.
+pub fn padded(spec: &ConversionSpecifier, float: f64, unmarked: String) -> String {
+    let mark = match () {
+        () if float.is_sign_negative() => "-",
+        () if spec.force_sign => "+",
+        () if spec.space_sign => " ",
+        () => "",
+    };
+    let width = match spec.width {
+        NumericParam::Literal(width) => width as usize,
+        NumericParam::FromArgument => 0,
+    };
+    let fill = width.saturating_sub(mark.len() + unmarked.len());
+    let text = if spec.left_adj {
+        format!("{mark}{unmarked}{}", " ".repeat(fill))
+    } else if spec.zero_pad {
+        format!("{mark}0x{}{}", "0".repeat(fill), &unmarked[2..])
+    } else {
+        format!("{}{mark}{unmarked}", " ".repeat(fill))
+    };
+    match spec.conversion_type {
+        ConversionType::HexFloatUpper => text.to_ascii_uppercase(),
+        _ => text,
+    }
 }
 
 #[cfg(test)]

@@ -1,28 +1,35 @@
 //! Compares format_string.rs of datafusion-spark 55.2.0 with the library's C interface over generated cases.
 
 mod classes;
+mod dates;
 mod expect;
 mod fixed;
+mod formats;
 mod generate;
 mod hex_float;
 mod judge;
 mod library;
+mod moments;
 mod options;
 mod prng;
 mod row;
 mod shrink;
 mod store;
+mod timestamps;
+mod values;
 
 use std::collections::HashSet;
 use std::fs::File;
 use std::io::{self, BufWriter, Write};
+use std::iter;
 use std::panic;
 use std::process::ExitCode;
 use std::time::{Duration, Instant};
 
 use classes::{Class, Tally};
 use expect::{Accepted, Expectation, PieceText};
-use generate::Case;
+use fixed::Answer;
+use generate::{Case, Dates};
 use judge::Difference;
 use library::Library;
 use options::{Mode, Options};
@@ -93,6 +100,9 @@ struct Run {
     failed: u64,
     refused: u64,
     printed: u64,
+    /// Of these, printed from a row with a timestamp, and refused with 18.
+    dated: u64,
+    refused_dates: u64,
     tally: Tally,
     shown: HashSet<String>,
 }
@@ -101,7 +111,7 @@ impl Run {
     fn take(&mut self, library: Option<&dyn Library>, case: &Case) {
         let judged = judge_case(library, case);
         if let Some(expectation) = &judged.expectation {
-            self.count(expectation);
+            self.count(case, expectation);
         }
         match judged.difference {
             None => self.passed += 1,
@@ -112,11 +122,32 @@ impl Run {
         }
     }
 
-    fn count(&mut self, expectation: &Expectation) {
+    /// Cases whose answer is listed: this tool must expect it too.
+    fn take_answered(&mut self, library: Option<&dyn Library>, cases: Vec<(Case, Answer)>) {
+        for (case, answer) in cases {
+            self.take(library, &case);
+            if !is_met(&case, answer) {
+                self.failed += 1;
+                println!("a listed answer is not met by this tool: {}", case.show());
+            }
+        }
+    }
+
+    fn take_all(&mut self, library: Option<&dyn Library>, cases: impl Iterator<Item = Case>) -> u64 {
+        cases.map(|case| self.take(library, &case)).count() as u64
+    }
+
+    fn count(&mut self, case: &Case, expectation: &Expectation) {
         self.tally.count(&expectation.classes);
         match &expectation.answer {
-            Ok(Accepted { printed: Ok(_), .. }) => self.printed += 1,
-            _ => self.refused += 1,
+            Ok(Accepted { printed: Ok(_), .. }) => {
+                self.printed += 1;
+                self.dated += u64::from(case.row.kinds().contains(&8));
+            }
+            Ok(Accepted { printed: Err(refusal), .. }) | Err(refusal) => {
+                self.refused += 1;
+                self.refused_dates += u64::from(refusal.number == 18);
+            }
         }
     }
 
@@ -149,8 +180,8 @@ impl Run {
     }
 
     fn summarise(&self) -> ExitCode {
-        println!("{:>10}  cases printed", self.printed);
-        println!("{:>10}  cases refused", self.refused);
+        println!("{:>10}  cases printed, {} of them from rows with timestamps", self.printed, self.dated);
+        println!("{:>10}  cases refused, {} of them with 18", self.refused, self.refused_dates);
         println!("Of these, not compared with the original's own answer in full:");
         self.tally.print();
         println!("{} passed, {} failed", self.passed, self.failed);
@@ -165,36 +196,59 @@ fn judged_by(classes: &[Class]) -> String {
 fn run(options: &Options, library: Option<&dyn Library>) -> ExitCode {
     let started = Instant::now();
     let mut run = Run::default();
-    for (case, answer) in fixed::cases() {
-        run.take(library, &case);
-        if fixed_answer(&case) != answer.map(str::to_owned) {
-            run.failed += 1;
-            println!("a case of 01 is not met by this tool: {}", case.show());
+    run.take_answered(library, fixed::cases());
+    if options.dates != Dates::No {
+        run.take_answered(library, moments::cases());
+        let listed = run.take_all(library, moments::letters().chain(moments::changes()));
+        println!("{listed} listed cases of letters and dates");
+    }
+    if options.days {
+        println!("{} cases of days and seconds", run.take_all(library, moments::days()));
+    } else {
+        let mut prng = Prng::new(options.seed);
+        let mut cases = 0;
+        while cases < options.count && started.elapsed() < options.time {
+            run.take(library, &generate::case(&mut prng, options.dates));
+            cases += 1;
         }
+        println!("seed {}, {cases} generated cases", options.seed);
     }
-    let mut prng = Prng::new(options.seed);
-    let mut cases = 0;
-    while cases < options.count && started.elapsed() < options.time {
-        run.take(library, &generate::case(&mut prng));
-        cases += 1;
-    }
-    println!("seed {}, {cases} generated cases, {} seconds", options.seed, started.elapsed().as_secs());
+    println!("{} seconds", started.elapsed().as_secs());
+    println!("{}", source_of_dates());
     run.summarise()
 }
 
-/// What this tool expects of a case of 01: its text, or the number of its refusal.
-fn fixed_answer(case: &Case) -> Result<String, u64> {
+fn source_of_dates() -> String {
+    match chrono::RELEASE {
+        Some(release) => format!("dates come from chrono {release}"),
+        None => {
+            "the texts of dates were not compared: chrono is not installed (Debian's librust-chrono-dev)".to_owned()
+        }
+    }
+}
+
+/// What this tool expects of a case: its text, if all of it is known, or the number of its refusal.
+fn expected_answer(case: &Case) -> Result<Option<String>, u64> {
     let expectation = expect_case(case).map_err(|_| 0_u64)?;
     let accepted = expectation.answer.map_err(|refusal| refusal.number)?;
     let texts = accepted.printed.map_err(|refusal| refusal.number)?;
-    texts.iter().map(|text| if let PieceText::Text(text) = text { Ok(text.as_str()) } else { Err(0) }).collect()
+    Ok(texts.iter().map(|text| if let PieceText::Text(text) = text { Some(text.as_str()) } else { None }).collect())
+}
+
+/// Whether this tool expects the listed answer. Without chrono it does not know the text of a date.
+fn is_met(case: &Case, answer: Answer) -> bool {
+    match expected_answer(case) {
+        Ok(None) => answer.is_ok() && chrono::RELEASE.is_none(),
+        Ok(Some(text)) => answer == Ok(text.as_str()),
+        Err(number) => answer == Err(number),
+    }
 }
 
 /// Prints generated cases and what is expected of them.
 fn show(options: &Options) -> ExitCode {
     let mut prng = Prng::new(options.seed);
     for _ in 0..options.count {
-        let case = generate::case(&mut prng);
+        let case = generate::case(&mut prng, options.dates);
         println!("{}", case.show());
         match expect_case(&case) {
             Ok(expectation) => println!("  {:?} {:?}", expectation.answer, expectation.classes),
@@ -207,9 +261,13 @@ fn show(options: &Options) -> ExitCode {
 fn write_store(options: &Options, name: &str) -> io::Result<()> {
     let mut file = BufWriter::new(File::create(name)?);
     let mut prng = Prng::new(options.seed);
+    let generated = iter::repeat_with(|| generate::case(&mut prng, options.dates));
+    let listed = if options.dates == Dates::All { moments::stored() } else { Vec::new() };
     let mut stored = 0;
-    while stored < options.count {
-        let case = generate::case(&mut prng);
+    for case in listed.into_iter().chain(generated) {
+        if stored == options.count {
+            break;
+        }
         if let Ok(expectation) = expect_case(&case) {
             stored += u64::from(store::store(&mut file, &case, &expectation)?);
         }
@@ -224,27 +282,27 @@ mod tests {
     use super::*;
 
     #[test]
-    fn cases_of_01() {
-        for (case, answer) in fixed::cases() {
-            assert_eq!(fixed_answer(&case), answer.map(str::to_owned), "{}", case.show());
+    fn listed_answers() {
+        for (case, answer) in fixed::cases().into_iter().chain(moments::cases()) {
+            assert!(is_met(&case, answer), "{}", case.show());
         }
     }
 
     #[test]
     fn numbers_too_large_for_the_original() {
-        let number = |format: &str, values: Vec<row::Value>| {
+        let meets = |format: &str, values: Vec<row::Value>, answer: Answer| {
             let row = row::Row { values, text: Vec::new() };
             let room = generate::Room::ShortOutput;
-            fixed_answer(&Case { format: format.as_bytes().to_vec(), row, room })
+            assert!(is_met(&Case { format: format.as_bytes().to_vec(), row, room }, answer), "{format}");
         };
         let one = || vec![row::Value::Int8(Some(1))];
-        assert_eq!(number("%d%d99999999999", one()), Err(7));
-        assert_eq!(number("%d%%99999999999", one()), Ok("1%99999999999".to_owned()));
-        assert_eq!(number("%-099999999999d", one()), Err(8));
-        assert_eq!(number("%099999999999$d", Vec::new()), Err(7));
-        assert_eq!(number("%099999999999$d", one()), Err(6));
-        assert_eq!(number("%d%<.00099999999999", one()), Err(6));
-        assert_eq!(number("%q%99999999999d", one()), Err(10));
-        assert_eq!(number("%.0000000000001d", one()), Ok("1".to_owned()));
+        meets("%d%d99999999999", one(), Err(7));
+        meets("%d%%99999999999", one(), Ok("1%99999999999"));
+        meets("%-099999999999d", one(), Err(8));
+        meets("%099999999999$d", Vec::new(), Err(7));
+        meets("%099999999999$d", one(), Err(6));
+        meets("%d%<.00099999999999", one(), Err(6));
+        meets("%q%99999999999d", one(), Err(10));
+        meets("%.0000000000001d", one(), Ok("1"));
     }
 }

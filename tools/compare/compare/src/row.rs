@@ -2,7 +2,7 @@
 
 use std::fmt::Write;
 
-use arrow::datatypes::DataType;
+use arrow::datatypes::{DataType, TimeUnit};
 use datafusion_common::ScalarValue;
 
 #[derive(Debug, Clone, Copy, PartialEq)]
@@ -18,12 +18,14 @@ pub enum Value {
         offset: u32,
         length: u32,
     },
+    /// Nanoseconds since 1970. Without them it is kind byte 136, which breaks the row's layout.
+    Timestamp(Option<i64>),
 }
 
 const NULL_MARK: u8 = 128;
 
 impl Value {
-    /// The kind, 1 to 7, without its null mark.
+    /// The kind, 1 to 8, without its null mark.
     pub fn kind(self) -> u8 {
         match self {
             Value::Int8(_) => 1,
@@ -33,6 +35,7 @@ impl Value {
             Value::Float(_) => 5,
             Value::Boolean(_) => 6,
             Value::Text { .. } => 7,
+            Value::Timestamp(_) => 8,
         }
     }
 
@@ -46,6 +49,7 @@ impl Value {
             Value::Float(v) => Some(v.to_bits()),
             Value::Boolean(v) => v.map(u64::from),
             Value::Text { offset, length } => Some(u64::from(offset) | u64::from(length) << 32),
+            Value::Timestamp(v) => v.map(|v| v as u64),
         }
     }
 
@@ -70,6 +74,14 @@ impl Value {
         }
     }
 
+    /// The byte of the value's kind in a row.
+    fn kind_byte(self) -> u8 {
+        match self.bits() {
+            Some(_) => self.kind(),
+            None => self.kind() | NULL_MARK,
+        }
+    }
+
     fn data_type(self) -> DataType {
         match self {
             Value::Int8(_) => DataType::Int8,
@@ -79,6 +91,7 @@ impl Value {
             Value::Float(_) => DataType::Float64,
             Value::Boolean(_) => DataType::Boolean,
             Value::Text { .. } => DataType::Utf8,
+            Value::Timestamp(_) => DataType::Timestamp(TimeUnit::Nanosecond, Some("UTC".into())),
         }
     }
 }
@@ -91,8 +104,14 @@ pub struct Row {
 }
 
 impl Row {
+    /// The kinds for checking: without null marks, but with the one that breaks the layout.
     pub fn kinds(&self) -> Vec<u8> {
-        self.values.iter().map(|v| v.kind()).collect()
+        let kind = |v: &Value| if *v == Value::Timestamp(None) { v.kind_byte() } else { v.kind() };
+        self.values.iter().map(kind).collect()
+    }
+
+    pub fn has_null_timestamp(&self) -> bool {
+        self.values.contains(&Value::Timestamp(None))
     }
 
     /// The row in its layout: count, text length, kinds, values, text.
@@ -100,10 +119,7 @@ impl Row {
         let mut bytes = Vec::with_capacity(6 + 9 * self.values.len() + self.text.len());
         bytes.extend((self.values.len() as u16).to_le_bytes());
         bytes.extend((self.text.len() as u32).to_le_bytes());
-        bytes.extend(self.values.iter().map(|v| match v.bits() {
-            Some(_) => v.kind(),
-            None => v.kind() | NULL_MARK,
-        }));
+        bytes.extend(self.values.iter().map(|v| v.kind_byte()));
         for value in &self.values {
             bytes.extend(value.bits().unwrap_or(0).to_le_bytes());
         }
@@ -130,6 +146,7 @@ impl Row {
             Value::Float(v) => ScalarValue::Float64(Some(v)),
             Value::Boolean(v) => ScalarValue::Boolean(v),
             Value::Text { offset, length } => ScalarValue::Utf8(Some(self.text_at(offset, length).to_owned())),
+            Value::Timestamp(v) => ScalarValue::TimestampNanosecond(v, Some("UTC".into())),
         }
     }
 
@@ -150,6 +167,7 @@ impl Row {
                     let text = self.text_at(offset, length);
                     write!(shown, "text {text:?} (at {offset})").expect("a String");
                 }
+                Value::Timestamp(v) => show_option(&mut shown, "timestamp", v),
             }
         }
         shown
@@ -179,18 +197,22 @@ mod tests {
                 Value::Float(1.0),
                 Value::Boolean(Some(true)),
                 Value::Text { offset: 1, length: 2 },
+                Value::Timestamp(Some(-2)),
+                Value::Timestamp(None),
             ],
             text: b"x\xc3\xa9".to_vec(),
         };
-        let mut expected = vec![5, 0, 3, 0, 0, 0, 1, 131, 5, 6, 7];
+        let mut expected = vec![7, 0, 3, 0, 0, 0, 1, 131, 5, 6, 7, 8, 136];
         expected.extend([0xfe, 255, 255, 255, 255, 255, 255, 255]);
         expected.extend([0; 8]);
         expected.extend([0, 0, 0, 0, 0, 0, 0xf0, 0x3f]);
         expected.extend([1, 0, 0, 0, 0, 0, 0, 0]);
         expected.extend([1, 0, 0, 0, 2, 0, 0, 0]);
+        expected.extend([0xfe, 255, 255, 255, 255, 255, 255, 255]);
+        expected.extend([0; 8]);
         expected.extend(b"x\xc3\xa9");
         assert_eq!(row.pack(), expected);
-        assert_eq!(row.kinds(), [1, 3, 5, 6, 7]);
+        assert_eq!(row.kinds(), [1, 3, 5, 6, 7, 8, 136]);
         assert_eq!(row.text_at(1, 2), "é");
     }
 }

@@ -1,5 +1,6 @@
 //! A failing case made smaller, step by step, as long as the same comparison fails.
 
+use crate::dates::SECOND;
 use crate::generate::{Case, Room};
 use crate::row::{Row, Value};
 
@@ -125,6 +126,9 @@ fn simpler_values(value: Value, row: &Row) -> Vec<Value> {
         Value::Float(float) => simpler_floats(float).into_iter().map(Value::Float).collect(),
         Value::Boolean(Some(true)) => vec![Value::Boolean(Some(false))],
         Value::Text { offset, length } => shorter_texts(row, offset, length),
+        Value::Timestamp(timestamp) => {
+            timestamp.map_or(Vec::new(), simpler_timestamps).into_iter().map(|t| Value::Timestamp(Some(t))).collect()
+        }
         _ => {
             let Some(integer) = value.integer() else { return Vec::new() };
             let nearer = [0, integer / 1000, integer / 10, integer / 2, integer - integer.signum()];
@@ -132,6 +136,15 @@ fn simpler_values(value: Value, row: &Row) -> Vec<Value> {
             smaller.map(|n| Value::of_integer(value.kind(), Some(n))).collect()
         }
     }
+}
+
+/// Timestamps nearer to 1970: whole days, hours, minutes and seconds, then those with one digit lowered by one.
+fn simpler_timestamps(timestamp: i64) -> Vec<i64> {
+    let whole = [86_400, 3_600, 60, 1].map(|seconds| timestamp - timestamp % (seconds * SECOND));
+    let halves = whole.map(|t| t / 2);
+    let lower = (0..19).rev().map(|digits| timestamp.saturating_sub(timestamp.signum() * 10_i64.pow(digits)));
+    let all = [0].into_iter().chain(whole).chain(halves).chain(lower);
+    all.filter(|t| t.unsigned_abs() < timestamp.unsigned_abs()).collect()
 }
 
 /// Floats with fewer bits set: 0, a smaller exponent's distance, a fraction with its last set bit gone.
@@ -204,5 +217,17 @@ mod tests {
         assert_eq!(small.format, b"+");
         assert_eq!(small.row, Row { values: vec![Value::Int8(Some(-1))], text: Vec::new() });
         assert_eq!(small.room, Room::Spare { output: 0, ends: 0, bytes: 0 });
+    }
+
+    #[test]
+    fn a_timestamp_comes_near_to_1970() {
+        let case = Case {
+            format: b"%tH".to_vec(),
+            row: Row { values: vec![Value::Timestamp(Some(-9_223_372_036_854_775_807))], text: Vec::new() },
+            room: Room::ShortEnds,
+        };
+        let below = |c: &Case| matches!(c.row.values[..], [Value::Timestamp(Some(t))] if t < -3 * SECOND);
+        let small = shrink(&case, below);
+        assert_eq!(small.row.values, [Value::Timestamp(Some(-3 * SECOND - 1))]);
     }
 }

@@ -48,6 +48,11 @@ pub mod datatypes {
     use std::fmt;
     use std::sync::Arc;
 
+    #[derive(Debug, Clone, PartialEq, Eq, Hash)]
+    pub enum TimeUnit {
+        Nanosecond,
+    }
+
     /// The types that the comparison uses, and those that format_string.rs names.
     #[derive(Debug, Clone, PartialEq, Eq, Hash)]
     pub enum DataType {
@@ -63,6 +68,7 @@ pub mod datatypes {
         UInt64,
         Float64,
         Date32,
+        Timestamp(TimeUnit, Option<Arc<str>>),
         Utf8,
         LargeUtf8,
         Utf8View,
@@ -79,7 +85,7 @@ pub mod datatypes {
         }
 
         pub fn is_temporal(&self) -> bool {
-            *self == DataType::Date32
+            matches!(self, DataType::Date32 | DataType::Timestamp(..))
         }
     }
 

@@ -2,6 +2,9 @@
 
 use std::marker::PhantomData;
 
+/// No release of chrono: this crate stands where chrono is not installed.
+pub const RELEASE: Option<&str> = None;
+
 pub struct Utc;
 
 pub struct DateTime<Zone>(PhantomData<Zone>);

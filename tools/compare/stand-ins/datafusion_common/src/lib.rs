@@ -1,5 +1,5 @@
 //! Stand-in for datafusion_common: errors with their message, and the values that format_string.rs names. The comparison
-//! makes Boolean, Int8 to Int64, Float64 and Utf8 values only.
+//! makes Boolean, Int8 to Int64, Float64, Utf8 and TimestampNanosecond values only.
 
 use std::fmt;
 use std::sync::Arc;

@@ -1,0 +1,6 @@
+pub mod Counting
+mod Years
+pub mod Only
+mod Estimate
+mod Finite
+mod Epoch
