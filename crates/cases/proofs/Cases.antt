@@ -7,7 +7,7 @@ use Rattle.numerals.specs.Grouping.{grouped}
 use Rattle.numerals.specs.Integers.{intOf}
 use Rattle.params.specs.Params.{leadingDigits, numberTaken, numberAt, paramAt}
 use Rattle.words.specs.LittleEndian.{littleEndian, wordAt}
-use Rattle.layout.specs.Frame.{spaces, headText, tailText, framed, spare, frameOf, padded}
+use Rattle.frames.specs.Frame.{spaces, headText, tailText, framed, spare, frameOf, padded}
 use Rattle.binary64.specs.Fields.{negative, exponentField, fractionField, categoryOf, scaledBits}
 use Rattle.binary64.specs.HexFloat.{shortest, rounded, hexFloatOf}
 use Rattle.binary64.specs.Rounding.{nearestTo, keptDigits}

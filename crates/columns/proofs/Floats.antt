@@ -4,10 +4,10 @@ use mathlib.Core.Path.{_≡_, refl, sym, ap, _∙_}
 use mathlib.Core.Bool.{Bool, true, false}
 use mathlib.Core.List.{List, []}
 use Rattle.params.specs.Params.{widthOf}
-use Rattle.layout.specs.Frame.{closing}
-use Rattle.layout.specs.Signs.{isMinus}
-use Rattle.layout.specs.declared.Mark.{Mark}
-use Rattle.layout.specs.declared.Prefix.{Prefix}
+use Rattle.frames.specs.Frame.{closing}
+use Rattle.frames.specs.Signs.{isMinus}
+use Rattle.frames.specs.declared.Mark.{Mark}
+use Rattle.frames.specs.declared.Prefix.{Prefix}
 use Rattle.binary64.specs.Fields.{negative}
 use Rattle.binary64.specs.HexFloat.{hexFloatOf}
 use Rattle.binary64.specs.declared.HexFloat.{HexFloat}

@@ -5,13 +5,13 @@ use mathlib.Core.Bool.{false}
 use mathlib.Core.List.{List, []}
 use lib.ListN.{length}
 use Rattle.writing.proofs.Choose.{by-test}
-use Rattle.layout.specs.Frame.{spare, frameOf, framed, padded, closing}
-use Rattle.layout.specs.Signs.{isMinus}
-use Rattle.layout.specs.declared.Adjust.{Adjust}
-use Rattle.layout.specs.declared.Adjust.the-variants.{Right, Left, Zeros}
-use Rattle.layout.specs.declared.Frame.{Frame}
-use Rattle.layout.specs.declared.Mark.{Mark}
-use Rattle.layout.specs.declared.Prefix.{Prefix}
+use Rattle.frames.specs.Frame.{spare, frameOf, framed, padded, closing}
+use Rattle.frames.specs.Signs.{isMinus}
+use Rattle.frames.specs.declared.Adjust.{Adjust}
+use Rattle.frames.specs.declared.Adjust.the-variants.{Right, Left, Zeros}
+use Rattle.frames.specs.declared.Frame.{Frame}
+use Rattle.frames.specs.declared.Mark.{Mark}
+use Rattle.frames.specs.declared.Prefix.{Prefix}
 use Rattle.reading.proofs.Integers.{spaced, framed-spaced}
 use Rattle.flags.specs.declared.Flags.{Flags}
 use Rattle.numbers.specs.Numbers.{signMark}

@@ -15,11 +15,11 @@ use Rattle.numerals.specs.Digits.{digits, lettersOf, numeral, decimal}
 use Rattle.numerals.specs.Integers.{intOf, isNegative, signed, bitsOf, InWidth}
 use Rattle.numerals.proofs.Integers.{sign-magnitude, intOf-low, intOf-high, low-bits}
 use Rattle.params.specs.Params.{widthOf}
-use Rattle.layout.specs.Signs.{isMinus}
-use Rattle.layout.specs.declared.Mark.{Mark}
-use Rattle.layout.specs.declared.Mark.the-variants.{NoMark}
-use Rattle.layout.specs.declared.Prefix.{Prefix}
-use Rattle.layout.specs.declared.Prefix.the-variants.{NoPrefix, Octal}
+use Rattle.frames.specs.Signs.{isMinus}
+use Rattle.frames.specs.declared.Mark.{Mark}
+use Rattle.frames.specs.declared.Mark.the-variants.{NoMark}
+use Rattle.frames.specs.declared.Prefix.{Prefix}
+use Rattle.frames.specs.declared.Prefix.the-variants.{NoPrefix, Octal}
 use Rattle.reading.specs.Kept.{kept}
 use Rattle.reading.specs.Reading.{Integer, Bits, readPiece}
 use Rattle.reading.proofs.Integers.{spaced, kept-numeral, kept-commas}

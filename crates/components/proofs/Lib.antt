@@ -1,3 +1,1 @@
-mod Numbers
 mod Shown
-mod Symbols

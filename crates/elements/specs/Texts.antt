@@ -8,7 +8,7 @@ use lib.IntN.{ℤ, natAbs}
 use Rattle.writing.specs.Choose.{choose}
 use Rattle.writing.specs.Text.{ascii}
 use Rattle.numerals.specs.Integers.{intOf, isNegative}
-use Rattle.layout.specs.declared.Mark.the-variants.{NoMark}
+use Rattle.frames.specs.declared.Mark.the-variants.{NoMark}
 use Rattle.binary64.specs.Fields.{negative, categoryOf}
 use Rattle.binary64.specs.declared.FpCategory.{FpCategory}
 use Rattle.binary64.specs.declared.FpCategory.the-variants as C

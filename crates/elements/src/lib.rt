@@ -1,11 +1,11 @@
 // The text of a row's value under an element: its length, and its writer, which writes where there is room.
 // Ported from format_string.rs of datafusion-spark 55.2.0 (Apache-2.0; see NOTICE): format_integer, format_char, format_boolean,
 // format_hex_float and format_time, but for the text of a number, which is `numbers`, a text in its field, which is `fields`, and a component
-// of a date, which is `components`.
+// of a date, which is `dates`.
 use binary64::FpCategory;
 use conversions::Form;
 use conversions::IntegerForm;
-use layout::Mark;
+use frames::Mark;
 use letters::TimeFormat;
 use specifiers::Element;
 ghost use mathlib.Core.Bool.{false};
@@ -93,9 +93,7 @@ fn format_time(out: &mut [u8], component: TimeFormat, value: u64, upper: bool) -
     if components::is_early_fraction(value) {
         return Size::Stops(refusals::NO_WHOLE_SECOND);
     }
-    let mut buffer = [0u8; 168];
-    let n = components::write_component(&mut buffer, component, value);
-    Size::Bytes(strings::put_cased(out, &buffer[..n], upper) as u64)
+    Size::Bytes(dates::put_component(out, component, value, upper) as u64)
 }
 
 // Writes an element for a row's entry where there is room for it: its kind byte, the text it names, its value.

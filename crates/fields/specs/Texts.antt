@@ -6,12 +6,12 @@ use mathlib.Core.List.{List, _∷_}
 use Rattle.writing.specs.Choose.{choose}
 use Rattle.numerals.specs.Digits.{decimal}
 use Rattle.params.specs.Params.{widthOf}
-use Rattle.layout.specs.Frame.{padded}
-use Rattle.layout.specs.declared.Mark.{Mark}
-use Rattle.layout.specs.declared.Mark.the-variants.{NoMark}
-use Rattle.layout.specs.declared.Prefix.the-variants.{NoPrefix}
-use Rattle.layout.specs.declared.Adjust.{Adjust}
-use Rattle.layout.specs.declared.Adjust.the-variants.{Right, Left}
+use Rattle.frames.specs.Frame.{padded}
+use Rattle.frames.specs.declared.Mark.{Mark}
+use Rattle.frames.specs.declared.Mark.the-variants.{NoMark}
+use Rattle.frames.specs.declared.Prefix.the-variants.{NoPrefix}
+use Rattle.frames.specs.declared.Adjust.{Adjust}
+use Rattle.frames.specs.declared.Adjust.the-variants.{Right, Left}
 use Rattle.flags.specs.declared.Flags.{Flags}
 use Rattle.specifiers.specs.declared.Element.{Element}
 use Rattle.strings.specs.Cut.{cutTo, cased}

@@ -1,9 +1,9 @@
 // A text in a field of the element's width: a text or a word, and an integer's digits. Answers the length, and writes where there is room.
 // Ported from format_string.rs of datafusion-spark 55.2.0 (Apache-2.0; see NOTICE): format_string, and the digits of format_integer under %s.
 use flags::Flags;
-use layout::Adjust;
-use layout::Mark;
-use layout::Prefix;
+use frames::Adjust;
+use frames::Mark;
+use frames::Prefix;
 use numerals::Radix;
 use specifiers::Element;
 ghost use mathlib.Core.Path.{_≡_};

@@ -1,36 +1,25 @@
--- A text brought to a width: its length, and the three writes that make it. Assumes nothing.
+-- A text brought to a width by the three writes that make it. Assumes nothing.
 use mathlib.Core.Path.{_≡_, refl, sym, ap, subst, _∙_}
 use mathlib.Core.Bool.{Bool, true, false}
-use mathlib.Core.List.{List, [], _++_, append-nil, append-assoc}
-use Prim.Native.Nat.{ℕ, _+_, _-_, _≤_, max}
+use mathlib.Core.List.{List, _++_, append-assoc}
+use Prim.Native.Nat.{ℕ, _+_, _-_, _≤_}
 use native.Mathlib.Nat.{add-assoc}
 use native.Mathlib.Omega.{arith}
-use lib.ListN.{length, take, drop, length-append, length-drop, drop-of-length-le}
+use lib.ListN.{length, take, drop, length-append, length-drop}
 use lib.Seq.{length-take-le, take-append-add, drop-append-add, take-append-seam, drop-append-seam, drop-at, drop-drop}
-use borrow.Author.Tests.{eqb-true, leb-true, leb-false}
+use borrow.Author.Tests.{leb-true, leb-false}
 use borrow.Rule.Slice.PartMut.{putMid, midOf}
 use Rattle.writing.specs.Laid.{laid}
 use Rattle.writing.specs.Writers.{Put}
 use Rattle.writing.proofs.Laid.{lent-back, laid-room, laid-no-room}
-use Rattle.layout.specs.Frame.{opening, prefixText, closing, marks, headText, tailText, framed, spare, frameOf, padded}
+use Rattle.frames.specs.Frame.{headText, tailText, frameOf, padded}
+use Rattle.frames.specs.declared.Mark.{Mark}
+use Rattle.frames.specs.declared.Prefix.{Prefix}
+use Rattle.frames.specs.declared.Adjust.{Adjust}
+use Rattle.frames.specs.declared.Frame.{Frame}
+use Rattle.frames.proofs.Padded.{padded-is, padded-size}
 use Rattle.layout.specs.Around.{laidFrom, Holds, FramePut}
-use Rattle.layout.specs.Bare.{isBare}
-use Rattle.layout.specs.declared.Mark.{Mark}
-use Rattle.layout.specs.declared.Prefix.{Prefix}
-use Rattle.layout.specs.declared.Adjust.{Adjust}
-use Rattle.layout.specs.declared.Adjust.the-variants.{Right, Left, Zeros}
-use Rattle.layout.specs.declared.Frame.{Frame}
 use Rattle.layout.specs.declared.Framed.{Framed}
-use Rattle.layout.proofs.Lengths.{head-length, tail-length}
-
--- f is the frame of the text.
-module _ (w : ℕ) (a : Adjust) (m : Mark) (p : Prefix) (body : List ℕ) (f : Frame) (e : f ≡ frameOf w a m p (length body)) where
-  padded-is : padded w a m p body ≡ headText f ++ (body ++ tailText f)
-  unfolding padded framed
-  padded-is = rw e refl
-
-  pub padded-size : length (padded w a m p body) ≡ (length (headText f) + length (tailText f)) + length body
-  padded-size = ap length padded-is ∙ simp length-append (omega arith)
 
 -- The text in its frame: written to its place, which is n bytes long, where frame and text fit.
 around-filled : (d h b t : List ℕ) → (length h + length t) + length b ≤ length d
@@ -90,22 +79,3 @@ module _ (w : ℕ) (a : Adjust) (m : Mark) (p : Prefix) (body : List ℕ) (n : �
       let small = leb-false (r .added + length body) (length d) (sym (put .fits) ∙ e) in
       let held : Holds false d frame (length body) (r .at) D = subst (λ (t : Bool). Holds t d frame (length body) (r .at) D) e (put .holds) in
       (size, held .1 ∙ sym (laid-no-room d (padded w a m p body) (omega (arith, size))))
-
--- What a frame brings a text of n bytes to: the width, or more where mark, prefix and text are longer.
-module _ (w : ℕ) (m : Mark) (p : Prefix) (body : List ℕ) where
-  pub padded-length : (a : Adjust) → length (padded w a m p body) ≡ max w (length (marks m p) + length body + length (closing m))
-  unfolding frameOf spare
-  padded-length Right = rw (padded-size w Right m p body _ refl, head-length, tail-length, length-append) (omega arith)
-  padded-length Left = rw (padded-size w Left m p body _ refl, head-length, tail-length, length-append) (omega arith)
-  padded-length Zeros = rw (padded-size w Zeros m p body _ refl, head-length, tail-length, length-append) (omega arith)
-
--- Where there is nothing to write around a text, it stays as it is: by the lengths, head and tail are empty.
-pub bare : (width : ℕ) (a : Adjust) (m : Mark) (p : Prefix) (t : List ℕ) → isBare width m p ≡ true → padded width a m p t ≡ t
-bare width a m p t e =
-    let f = frameOf width a m p (length t) in
-    let none : width + (length (opening m) + length (prefixText p) + length (closing m)) ≡ 0 = eqb-true _ 0 e in
-    let both = length-append (opening m) (prefixText p) in
-    let n : length (headText f) + length (tailText f) ≡ 0 = omega (arith, padded-size width a m p t f refl, padded-length width m p t a) in
-    let head : headText f ≡ [] = drop-of-length-le (headText f) {i = 0} (omega arith) in
-    let tail : tailText f ≡ [] = drop-of-length-le (tailText f) {i = 0} (omega arith) in
-    padded-is width a m p t f refl ∙ rw (head, tail, append-nil)

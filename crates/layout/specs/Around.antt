@@ -6,8 +6,8 @@ use mathlib.Core.List.{List, _++_}
 use lib.Dec.{leb}
 use lib.ListN.{length, take, drop}
 use Rattle.writing.specs.Laid.{laid}
-use Rattle.layout.specs.Frame.{headText, tailText}
-use Rattle.layout.specs.declared.Frame.{Frame}
+use Rattle.frames.specs.Frame.{headText, tailText}
+use Rattle.frames.specs.declared.Frame.{Frame}
 use Rattle.layout.specs.declared.Framed.{Framed}
 
 -- A text over the part of d from a place on.

@@ -8,7 +8,7 @@ use Rattle.writing.specs.Choose.{choose}
 use Rattle.numerals.specs.Digits.{decimal}
 use Rattle.numerals.specs.Grouping.{grouped}
 use Rattle.numerals.specs.Integers.{intOf, isNegative}
-use Rattle.layout.specs.declared.Prefix.the-variants.{NoPrefix}
+use Rattle.frames.specs.declared.Prefix.the-variants.{NoPrefix}
 use Rattle.numerals.specs.declared.Radix.{Radix}
 use Rattle.numerals.specs.declared.Radix.the-variants as R
 use Rattle.specifiers.specs.declared.Element.{Element}

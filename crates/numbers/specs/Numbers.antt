@@ -8,13 +8,13 @@ use Rattle.numerals.specs.Digits.{numeral, decimal}
 use Rattle.numerals.specs.Grouping.{grouped}
 use Rattle.numerals.specs.Integers.{intOf, isNegative}
 use Rattle.params.specs.Params.{widthOf}
-use Rattle.layout.specs.Frame.{padded}
-use Rattle.layout.specs.declared.Mark.{Mark}
-use Rattle.layout.specs.declared.Mark.the-variants.{NoMark, Plus, Space, Minus, Brackets}
-use Rattle.layout.specs.declared.Prefix.{Prefix}
-use Rattle.layout.specs.declared.Prefix.the-variants.{NoPrefix, Octal, HexLower, HexUpper}
-use Rattle.layout.specs.declared.Adjust.{Adjust}
-use Rattle.layout.specs.declared.Adjust.the-variants.{Right, Left, Zeros}
+use Rattle.frames.specs.Frame.{padded}
+use Rattle.frames.specs.declared.Mark.{Mark}
+use Rattle.frames.specs.declared.Mark.the-variants.{NoMark, Plus, Space, Minus, Brackets}
+use Rattle.frames.specs.declared.Prefix.{Prefix}
+use Rattle.frames.specs.declared.Prefix.the-variants.{NoPrefix, Octal, HexLower, HexUpper}
+use Rattle.frames.specs.declared.Adjust.{Adjust}
+use Rattle.frames.specs.declared.Adjust.the-variants.{Right, Left, Zeros}
 use Rattle.binary64.specs.Fields.{negative}
 use Rattle.binary64.specs.HexFloat.{hexFloatOf}
 use Rattle.hexfloats.specs.Texts.{hexFloatText}

@@ -8,9 +8,9 @@ use Rattle.numerals.specs.Bases.{baseOf}
 use Rattle.numerals.specs.Digits.{numeral, decimal}
 use Rattle.numerals.specs.Grouping.{grouped}
 use Rattle.numerals.specs.Integers.{intOf, isNegative}
-use Rattle.layout.specs.declared.Mark.the-variants.{NoMark}
-use Rattle.layout.specs.declared.Prefix.{Prefix}
-use Rattle.layout.specs.declared.Prefix.the-variants.{NoPrefix, Octal}
+use Rattle.frames.specs.declared.Mark.the-variants.{NoMark}
+use Rattle.frames.specs.declared.Prefix.{Prefix}
+use Rattle.frames.specs.declared.Prefix.the-variants.{NoPrefix, Octal}
 use Rattle.numerals.specs.declared.Radix.{Radix}
 use Rattle.numerals.specs.declared.Radix.the-variants as R
 use Rattle.flags.specs.declared.Flags.{Flags}

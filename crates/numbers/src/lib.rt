@@ -2,9 +2,9 @@
 // Ported from format_string.rs of datafusion-spark 55.2.0 (Apache-2.0; see NOTICE): format_signed and format_unsigned (here the numeral of an integer, and its
 // writer put_numeral), and the finite values of format_hex_float.
 use flags::Flags;
-use layout::Adjust;
-use layout::Mark;
-use layout::Prefix;
+use frames::Adjust;
+use frames::Mark;
+use frames::Prefix;
 use numerals::Radix;
 use specifiers::Element;
 ghost use mathlib.Core.Path.{_≡_};
@@ -156,7 +156,7 @@ fn put_numeral(out: &mut [u8], e: Element, n: Numeral) -> u64
     let width = e.width;
     let mark = n.mark;
     let prefix = n.prefix;
-    if layout::is_bare(params::width_of(width), mark, prefix) {
+    if frames::is_bare(params::width_of(width), mark, prefix) {
         return put_bare_numeral(out, n);
     }
     put_framed_numeral(out, e, n)

@@ -7,7 +7,7 @@ use mathlib.Core.Option.{Option, none, some}
 use native.Mathlib.Omega.{arith}
 use lib.ListN.{length}
 use Rattle.writing.specs.Writers.{Put}
-use Rattle.layout.specs.declared.Mark.the-variants.{NoMark}
+use Rattle.frames.specs.declared.Mark.the-variants.{NoMark}
 use Rattle.conversions.specs.Kinds.{kindOf, printsAs}
 use Rattle.conversions.proofs.Tables.{OfByte, any-byte, form-of}
 use Rattle.specifiers.specs.declared.Element.{Element}

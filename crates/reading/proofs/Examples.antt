@@ -6,7 +6,7 @@ use Rattle.numerals.specs.Digits.{digitsIn, places, placesWithin, digits, lette
 use Rattle.numerals.specs.Grouping.{grouped}
 use Rattle.numerals.specs.Integers.{intOf, bitsOf}
 use Rattle.params.specs.Params.{leadingDigits, numberTaken, numberAt, paramAt}
-use Rattle.layout.specs.Frame.{spaces, headText, tailText, framed, spare, frameOf}
+use Rattle.frames.specs.Frame.{spaces, headText, tailText, framed, spare, frameOf}
 use Rattle.binary64.specs.Fields.{negative, exponentField, fractionField, categoryOf, significand, units, scaledBits}
 use Rattle.binary64.specs.Rounding.{nearestTo, keptDigits}
 use Rattle.binary64.specs.HexFloat.{shortest, rounded, hexFloatOf}

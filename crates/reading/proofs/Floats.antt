@@ -16,12 +16,12 @@ use Rattle.writing.specs.Choose.{choose}
 use Rattle.numerals.specs.Digits.{digits, digitsIn, letterOf, lettersOf, numberFrom, numberOf, decimal}
 use Rattle.numerals.proofs.Digits.{Below, below-append, below-digitsIn, below-zeros, letters-append}
 use Rattle.numerals.proofs.Digits.{length-letters, length-digitsIn, number-append, number-zeros, number-digitsIn}
-use Rattle.layout.specs.Frame.{closing, marks}
-use Rattle.layout.specs.Signs.{isMinus}
-use Rattle.layout.specs.declared.Mark.{Mark}
-use Rattle.layout.specs.declared.Mark.the-variants.{NoMark, Plus, Space, Minus, Brackets}
-use Rattle.layout.specs.declared.Prefix.{Prefix}
-use Rattle.layout.specs.declared.Prefix.the-variants.{HexLower, HexUpper}
+use Rattle.frames.specs.Frame.{closing, marks}
+use Rattle.frames.specs.Signs.{isMinus}
+use Rattle.frames.specs.declared.Mark.{Mark}
+use Rattle.frames.specs.declared.Mark.the-variants.{NoMark, Plus, Space, Minus, Brackets}
+use Rattle.frames.specs.declared.Prefix.{Prefix}
+use Rattle.frames.specs.declared.Prefix.the-variants.{HexLower, HexUpper}
 use Rattle.binary64.specs.declared.HexFloat.{HexFloat}
 use Rattle.hexfloats.specs.Texts.{leadingDigit, exponentText, hexFloatText}
 use Rattle.reading.specs.Kept.{kept}

@@ -15,13 +15,13 @@ use Rattle.numerals.specs.Grouping.{grouped}
 use Rattle.numerals.specs.Integers.{signed}
 use Rattle.numerals.proofs.Digits.{Below, below-append, below-digitsIn, below-zeros, letters-append}
 use Rattle.numerals.proofs.Digits.{length-digitsIn, number-append, number-zeros, number-digits, places-pos}
-use Rattle.layout.specs.Frame.{closing, marks, spaces, headText, tailText, framed}
-use Rattle.layout.specs.Signs.{isMinus}
-use Rattle.layout.specs.declared.Mark.{Mark}
-use Rattle.layout.specs.declared.Mark.the-variants.{NoMark, Plus, Space, Minus, Brackets}
-use Rattle.layout.specs.declared.Prefix.{Prefix}
-use Rattle.layout.specs.declared.Prefix.the-variants.{NoPrefix, Octal, HexLower, HexUpper}
-use Rattle.layout.specs.declared.Frame.{Frame}
+use Rattle.frames.specs.Frame.{closing, marks, spaces, headText, tailText, framed}
+use Rattle.frames.specs.Signs.{isMinus}
+use Rattle.frames.specs.declared.Mark.{Mark}
+use Rattle.frames.specs.declared.Mark.the-variants.{NoMark, Plus, Space, Minus, Brackets}
+use Rattle.frames.specs.declared.Prefix.{Prefix}
+use Rattle.frames.specs.declared.Prefix.the-variants.{NoPrefix, Octal, HexLower, HexUpper}
+use Rattle.frames.specs.declared.Frame.{Frame}
 use Rattle.reading.specs.Kept.{kept}
 use Rattle.reading.specs.Reading.{wholeNumber, withMinus, beforeClose, readDecimal, afterPrefix, orWhole, readBits}
 use Rattle.reading.proofs.Kept.{kept-append, kept-spaces, kept-letters, kept-grouped, zero-letters}

@@ -14,7 +14,7 @@ use Rattle.writing.specs.Choose.{choose}
 use Rattle.numerals.specs.Digits.{letterOf, lettersOf}
 use Rattle.numerals.specs.Grouping.{grouped, commaAfter}
 use Rattle.numerals.proofs.Digits.{Below}
-use Rattle.layout.specs.Frame.{spaces}
+use Rattle.frames.specs.Frame.{spaces}
 use Rattle.reading.specs.Kept.{kept, isDropped, small}
 
 pub kept-append : (xs ys : List ℕ) → kept (xs ++ ys) ≡ kept xs ++ kept ys

@@ -10,12 +10,12 @@ use Rattle.writing.specs.Choose.{choose}
 use Rattle.numerals.specs.Digits.{digits, lettersOf}
 use Rattle.numerals.specs.Integers.{signed}
 use Rattle.params.specs.declared.NumericParam.{NumericParam}
-use Rattle.layout.specs.Frame.{closing}
-use Rattle.layout.specs.Signs.{isMinus}
-use Rattle.layout.specs.declared.Mark.{Mark}
-use Rattle.layout.specs.declared.Mark.the-variants.{NoMark}
-use Rattle.layout.specs.declared.Prefix.{Prefix}
-use Rattle.layout.specs.declared.Prefix.the-variants.{NoPrefix}
+use Rattle.frames.specs.Frame.{closing}
+use Rattle.frames.specs.Signs.{isMinus}
+use Rattle.frames.specs.declared.Mark.{Mark}
+use Rattle.frames.specs.declared.Mark.the-variants.{NoMark}
+use Rattle.frames.specs.declared.Prefix.{Prefix}
+use Rattle.frames.specs.declared.Prefix.the-variants.{NoPrefix}
 use Rattle.binary64.specs.HexFloat.{hexFloatOf}
 use Rattle.hexfloats.specs.Texts.{hexFloatText}
 use Rattle.reading.specs.Kept.{kept}

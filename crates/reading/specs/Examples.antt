@@ -15,10 +15,10 @@ use Rattle.params.specs.Params.{paramAt}
 use Rattle.params.specs.declared.NumericParam.the-variants.{Literal, FromArgument}
 use Rattle.params.specs.declared.Taken.{Taken}
 use Rattle.params.specs.declared.Taken.the-variants.{Param, TooLarge}
-use Rattle.layout.specs.Frame.{framed, frameOf}
-use Rattle.layout.specs.declared.Mark.the-variants.{NoMark, Plus, Space, Minus, Brackets}
-use Rattle.layout.specs.declared.Prefix.the-variants.{NoPrefix, Octal, HexLower, HexUpper}
-use Rattle.layout.specs.declared.Adjust.the-variants.{Right, Left, Zeros}
+use Rattle.frames.specs.Frame.{framed, frameOf}
+use Rattle.frames.specs.declared.Mark.the-variants.{NoMark, Plus, Space, Minus, Brackets}
+use Rattle.frames.specs.declared.Prefix.the-variants.{NoPrefix, Octal, HexLower, HexUpper}
+use Rattle.frames.specs.declared.Adjust.the-variants.{Right, Left, Zeros}
 use Rattle.binary64.specs.Fields.{negative, exponentField, fractionField, categoryOf, units, scaledBits}
 use Rattle.binary64.specs.declared.FpCategory.{FpCategory}
 use Rattle.binary64.specs.declared.FpCategory.the-variants.{Nan, Infinite, Finite}

@@ -8,11 +8,11 @@ use native.Mathlib.Numerals.{add-one}
 use native.Mathlib.Omega.{arith}
 use lib.Dec.{leb}
 use lib.ListN.{length, getD, take, drop, set, replicate, length-append, length-drop, length-replicate, drop-of-length-le, replicate-append-replicate}
-use lib.Seq.{drop-cons, take-append-seam, drop-append-seam, drop-drop, take-suc, length-take-le, set-at, take-all, sets, sets-eq}
+use lib.Seq.{drop-cons, take-at, take-append-seam, drop-append-seam, drop-drop, take-suc, length-take-le, set-at, take-all, sets, sets-eq}
 use borrow.Author.Tests.{le-leb, lt-leb}
 use borrow.Rule.Slice.PartMut.{putMid, midOf}
 use Rattle.writing.specs.Laid.{laid}
-use Rattle.writing.specs.Writers.{laidIfRoom}
+use Rattle.writing.specs.Writers.{laidIfRoom, Wrote}
 
 pub laid-none : (d : List ℕ) → laid d [] ≡ d
 unfolding laid
@@ -82,3 +82,8 @@ laid-no-room d t h = let e : leb (length t) (length d) ≡ false = lt-leb (lengt
 -- no text leaves what was there
 pub none-laid : (d : List ℕ) → laidIfRoom d [] ≡ d
 none-laid d = laid-room d [] (omega arith) ∙ laid-none d
+
+-- A text that was written is read again.
+pub wrote-start : (d t out : List ℕ) (n : ℕ) → Wrote d t n out → take n out ≡ t
+unfolding laid
+wrote-start d t out n w = ap (take n) (w .1) ∙ take-at t (drop (length t) d) n (sym (w .0))

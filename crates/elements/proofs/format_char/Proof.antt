@@ -5,7 +5,7 @@ use lib.ListN.{length-take}
 use lib.Seq.{length-take-le}
 use native.Mathlib.Omega.{arith}
 use Rattle.scalars.proofs.Scalars.{scalar-length}
-use Rattle.fields.proofs.Written.{wrote-start}
+use Rattle.writing.proofs.Laid.{wrote-start}
 use Rattle.elements.proofs.Characters.{scalar-within}
 use Rattle.elements.proofs.Shown.{sized-text, sized-stop}
 use borrow.Author.Needs.{needs}

@@ -3,7 +3,7 @@ use mathlib.Core.Path.{sym}
 use lib.ListN.{length-take}
 use lib.Seq.{length-take-le}
 use native.Mathlib.Omega.{arith}
-use Rattle.fields.proofs.Written.{wrote-start}
+use Rattle.writing.proofs.Laid.{wrote-start}
 use borrow.Author.Needs.{needs}
 use Rattle.fields.proofs.format_signed_text.Statement.{statement}
 use Rattle.fields.proofs.format_signed_text.Tie as tie

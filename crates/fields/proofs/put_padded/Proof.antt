@@ -5,9 +5,9 @@ use native.Mathlib.Omega.{arith}
 use mathlib.Core.Path.{_≡_, sym}
 use mathlib.Core.Bool.{true}
 use Rattle.params.specs.Params.{widthOf}
-use Rattle.layout.specs.Frame.{frameOf}
+use Rattle.frames.specs.Frame.{frameOf}
 use Rattle.layout.specs.Around.{FramePut}
-use Rattle.layout.specs.declared.Prefix.the-variants.{NoPrefix}
+use Rattle.frames.specs.declared.Prefix.the-variants.{NoPrefix}
 use Rattle.layout.proofs.Padded.{framed-room, framed-put, framed-not}
 use Rattle.strings.specs.Cut.{cased}
 use Rattle.strings.proofs.Cased.{length-cased}

@@ -4,7 +4,7 @@ use mathlib.Core.Path.{refl, ap, _∙_}
 use lib.ListN.{length}
 use borrow.Rule.Slice.PartMut.{putMid}
 use Rattle.writing.proofs.Laid.{lent-back}
-use Rattle.layout.specs.Frame.{tailText}
+use Rattle.frames.specs.Frame.{tailText}
 use borrow.Author.Needs.{needs}
 use Rattle.layout.proofs.write_frame.Statement.{statement}
 use Rattle.layout.proofs.write_frame.Tie as tie

@@ -6,8 +6,8 @@ use mathlib.Core.List.{List}
 use lib.ListN.{replicate, length-take, length-drop}
 use native.Mathlib.Omega.{arith}
 use Rattle.writing.proofs.Chained.{wrote-fill, wrote-three}
-use Rattle.layout.specs.Frame.{marks, spaces, headText}
-use Rattle.layout.proofs.Lengths.{head-length}
+use Rattle.frames.specs.Frame.{marks, spaces, headText}
+use Rattle.frames.proofs.Lengths.{head-length}
 use borrow.Author.Needs.{needs}
 use Rattle.layout.proofs.write_head.Statement.{statement}
 use Rattle.layout.proofs.write_head.Tie as tie

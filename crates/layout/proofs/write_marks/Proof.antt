@@ -2,8 +2,8 @@
 use lib.ListN.{length-take, length-drop}
 use native.Mathlib.Omega.{arith}
 use Rattle.writing.proofs.Chained.{wrote-two}
-use Rattle.layout.specs.Frame.{opening, prefixText}
-use Rattle.layout.proofs.Lengths.{marks-length}
+use Rattle.frames.specs.Frame.{opening, prefixText}
+use Rattle.frames.proofs.Lengths.{marks-length}
 use borrow.Author.Needs.{needs}
 use Rattle.layout.proofs.write_marks.Statement.{statement}
 use Rattle.layout.proofs.write_marks.Tie as tie

@@ -5,8 +5,8 @@ use mathlib.Core.List.{List, [], _∷_}
 use native.Mathlib.Omega.{arith}
 use lib.ListN.{take, length-set}
 use Rattle.writing.proofs.Laid.{laid-none, laid-first, laid-stores}
-use Rattle.layout.specs.Short.{StandsFor}
-use Rattle.layout.specs.declared.Short.{Short}
+use Rattle.frames.specs.Short.{StandsFor}
+use Rattle.frames.specs.declared.Short.{Short}
 use borrow.Author.Needs.{needs}
 use Rattle.layout.proofs.write_short.Statement.{statement}
 use Rattle.layout.proofs.write_short.Tie as tie

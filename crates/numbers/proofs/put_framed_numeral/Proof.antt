@@ -5,7 +5,7 @@ use native.Mathlib.Omega.{arith}
 use mathlib.Core.Path.{_≡_}
 use mathlib.Core.Bool.{true}
 use Rattle.params.specs.Params.{widthOf}
-use Rattle.layout.specs.Frame.{frameOf}
+use Rattle.frames.specs.Frame.{frameOf}
 use Rattle.layout.specs.Around.{FramePut}
 use Rattle.layout.proofs.Padded.{framed-room, framed-put, framed-not}
 use Rattle.numbers.specs.Numbers.{fill}

@@ -6,8 +6,8 @@ use Prim.Native.Nat.{ℕ}
 use lib.ListN.{length}
 use Rattle.writing.specs.Writers.{laidIfRoom, Put}
 use Rattle.params.specs.Params.{widthOf}
-use Rattle.layout.specs.Bare.{isBare}
-use Rattle.layout.proofs.Padded.{bare}
+use Rattle.frames.specs.Bare.{isBare}
+use Rattle.frames.proofs.Padded.{bare}
 use Rattle.numbers.specs.Numbers.{fill, paddedNumber}
 use Rattle.numbers.specs.Numerals.{digitsText}
 use Rattle.specifiers.specs.declared.Element.{Element}

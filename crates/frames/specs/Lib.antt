@@ -1,0 +1,4 @@
+pub mod Frame
+pub mod Short
+pub mod Bare
+pub mod Signs
