@@ -21,13 +21,14 @@ use Rattle.parsing.proofs.Cover.{largest-one}
 use Rattle.parsing.proofs.Sound.{sound}
 use Rattle.pieces.specs.PieceTexts.{pieceText}
 use Rattle.pieces.specs.Ready.{Ready}
-use Rattle.passes.specs.Passes.{counted, tallied, withEnd, laidBehind, shownTexts, walkTexts, laidTexts, laidEnds, passTally, TallyBelow, Passed, Walk}
-use Rattle.passes.specs.declared.Tally.{Tally}
-use Rattle.passes.specs.declared.Tally.the-variants.{Length, Stops}
+use Rattle.tallies.specs.Tallies.{counted, tallied, withEnd, laidBehind, shownTexts, laidTexts, laidEnds, TallyBelow}
+use Rattle.passes.specs.Passes.{walkTexts, passTally, Passed, Walk}
+use Rattle.tallies.specs.declared.Tally.{Tally}
+use Rattle.tallies.specs.declared.Tally.the-variants.{Length, Stops}
 use Rattle.passes.proofs.Reached.{Reached, reached-start, next-inside, taken-next, reached-next}
-use Rattle.passes.proofs.Tallies.{tallied-one}
-use Rattle.passes.proofs.Fitting.{texts-none, ends-none}
-use Rattle.passes.proofs.Next.{bytes-next, slots-next}
+use Rattle.tallies.proofs.Tallies.{tallied-one}
+use Rattle.tallies.proofs.Fitting.{texts-none, ends-none}
+use Rattle.tallies.proofs.Next.{bytes-next, slots-next}
 
 -- The texts of pieces, in a pass that prints; none in one that only reads.
 abbrev passTexts : Bool → List ℕ → List ℕ → List Placed → List (List ℕ)

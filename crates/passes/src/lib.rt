@@ -1,23 +1,14 @@
 // One pass over the pieces of a format: it finds every refusal, adds up the text's length, and writes text and ends as far as they have room.
 // Ported from format_string.rs of datafusion-spark 55.2.0 (Apache-2.0; see NOTICE): the loops of Formatter::parse and Formatter::format.
-use elements::Size;
 use parsing::Ended;
 use parsing::Piece;
 use parsing::Step;
+use tallies::Tally;
 ghost use mathlib.Core.Path.{_≡_};
-ghost use Prim.Native.Nat.{_+_, _≤_, _<_, max};
+ghost use Prim.Native.Nat.{max};
 ghost use Rattle.parsing.specs.Check.{argumentOf};
-ghost use Rattle.elements.specs.Sizes.{SizeBelow};
-ghost use Rattle.pieces.specs.PieceTexts.{pieceText};
-ghost use Rattle.pieces.specs.Ready.{Ready};
-ghost use Rattle.passes.specs.Passes.{TallyBelow, Walkable, Walk, StopsAt};
-ghost use Rattle.passes.specs.Passes.{behind, withEnd, added, counted, laidBehind, walkTexts, laidTexts, laidEnds};
-
-// What a pass adds up: the length of the pieces so far, or the first of them that is not printed.
-pub enum Tally {
-    Length(u64),
-    Stops { number: u8, place: usize },
-}
+ghost use Rattle.tallies.specs.Tallies.{laidTexts, laidEnds};
+ghost use Rattle.passes.specs.Passes.{Walkable, Walk, StopsAt, walkTexts};
 
 // What a pass comes to: where reading ended, what was added up, the pieces and the largest argument index.
 pub struct Walked {
@@ -25,63 +16,6 @@ pub struct Walked {
     pub tally: Tally,
     pub pieces: usize,
     pub largest: usize,
-}
-
-// Where the next piece goes in so much room.
-fn place_behind(tally: Tally, room: usize) -> usize
-    ensures { λ r. ⌜ (r ≡ behind tally room) × (r ≤ room) ⌝ }
-{
-    let Tally::Length(n) = tally else {
-        return room;
-    };
-    if n < room as u64 {
-        return n as usize;
-    }
-    room
-}
-
-// One more size, of the k-th piece, which begins at a place, and its end. The first piece that is not printed stays.
-fn add_size(tally: Tally, size: Size, at: usize, k: usize, ends: &mut [u32]) -> Tally
-    requires { ⌜ (SizeBelow size) × (k < 512) × (TallyBelow k tally) ⌝ }
-    ensures { λ r. ⌜ (r ≡ added at size tally) × (TallyBelow (k + 1) r) × (now (ends .exit) ≡ withEnd k r (now (ends .entry))) ⌝ }
-{
-    let Tally::Length(n) = tally else {
-        return tally;
-    };
-    match size {
-        Size::Bytes(m) => {
-            let end = n + m;
-            if k < ends.len() {
-                ends[k] = (end % 4294967296) as u32;
-            }
-            Tally::Length(end)
-        }
-        Size::Stops(number) => Tally::Stops {
-            number: number,
-            place: at,
-        },
-    }
-}
-
-// One more piece, the k-th, which begins at a place: behind the pieces so far, in the output's part from there on.
-fn add_piece<'a>(
-    fmt: &'a [u8],
-    row: &'a [u8],
-    piece: Piece,
-    at: usize,
-    k: usize,
-    tally: Tally,
-    out: &mut [u8],
-    ends: &mut [u32],
-) -> Tally
-    requires { ⌜ (Ready (now fmt) (now row) piece) × (k < 512) × (TallyBelow k tally) ⌝ }
-    ensures { λ r. ⌜ (r ≡ counted (now (fmt .entry)) (now (row .entry)) piece at tally) × (TallyBelow (k + 1) r) ⌝ }
-    ensures { λ r. ⌜ now (out .exit) ≡ laidBehind tally (now (out .entry)) (pieceText (now (fmt .entry)) (now (row .entry)) piece) ⌝ }
-    ensures { λ r. ⌜ now (ends .exit) ≡ withEnd k r (now (ends .entry)) ⌝ }
-{
-    let from = place_behind(tally, out.len());
-    let size = pieces::put_piece(&mut out[from..], fmt, row, piece);
-    add_size(tally, size, at, k, ends)
 }
 
 // The argument that a piece uses, 0 for none.
@@ -158,7 +92,7 @@ pub fn walk<'a>(
             };
         };
         if prints {
-            tally = add_piece(fmt, row, piece, at, k, tally, out, ends);
+            tally = tallies::add_piece(fmt, row, piece, at, k, tally, out, ends);
         }
         largest = larger(largest, argument_of(piece));
         k = k + 1;

@@ -10,10 +10,11 @@ use Rattle.parsing.specs.declared.Ended.{Ended}
 use Rattle.parsing.specs.declared.Ended.the-variants.{Finished, Stopped}
 use Rattle.rows.specs.Row.{kindsOf}
 use Rattle.outcomes.specs.Printed.{texts, printedText, measuredEnd}
-use Rattle.passes.specs.Passes.{tallied, outcomeOf, checkedOf, checkedBy, Walk}
-use Rattle.passes.specs.declared.Tally.the-variants.{Length}
+use Rattle.tallies.specs.Tallies.{tallied, outcomeOf}
+use Rattle.passes.specs.Passes.{checkedOf, checkedBy, Walk}
+use Rattle.tallies.specs.declared.Tally.the-variants.{Length}
 use Rattle.passes.specs.declared.Walked.{Walked}
-use Rattle.passes.proofs.Tallies.{tally-end}
+use Rattle.tallies.proofs.Tallies.{tally-end}
 
 -- by where reading ended
 checked-by : (x : Ended) (ps : List Placed) → checkedOf x (length ps) (largestOf ps) ≡ checkedEnd x ps

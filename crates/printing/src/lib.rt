@@ -5,16 +5,17 @@
 use outcomes::Outcome;
 use parsing::Checked;
 use parsing::Ended;
-use passes::Tally;
 use passes::Walked;
 use rows::RowRead;
+use tallies::Tally;
 ghost use mathlib.Core.Path.{_≡_};
 ghost use lib.ListN.{length};
 ghost use Rattle.parsing.specs.Check.{checked};
 ghost use Rattle.parsing.specs.declared.Ended.the-variants.{Finished};
 ghost use Rattle.outcomes.specs.Printed.{texts, printedText, endsFrom, measured, ifRoom, printed, written};
 ghost use Rattle.printing.specs.Stages.{Staged};
-ghost use Rattle.passes.specs.Passes.{outcomeOf, checkedBy};
+ghost use Rattle.tallies.specs.Tallies.{outcomeOf};
+ghost use Rattle.passes.specs.Passes.{checkedBy};
 ghost use Rattle.outcomes.specs.Demand.{Demanded};
 
 // The answer of checking, from a pass.

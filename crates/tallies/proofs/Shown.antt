@@ -8,7 +8,7 @@ use Rattle.parsing.specs.Listed.{Placed}
 use Rattle.elements.specs.Texts.{Shown, Text, Stops, textOf, stopOf}
 use Rattle.pieces.specs.PieceTexts.{shownPiece}
 use Rattle.outcomes.specs.Printed.{textsOf, Stop, stopAt, firstStop}
-use Rattle.passes.specs.Passes.{upTo, shownTexts}
+use Rattle.tallies.specs.Tallies.{upTo, shownTexts}
 
 -- The text of one piece more, unless one before it is not printed.
 abbrev pub nextText : Option Stop → Shown → List (List ℕ)

@@ -10,12 +10,12 @@ use Rattle.elements.specs.Sizes.{sizeOf}
 use Rattle.pieces.specs.PieceTexts.{shownPiece, pieceText}
 use Rattle.outcomes.specs.Printed.{textsOf, joined, Stop, firstStop}
 use Rattle.outcomes.proofs.Texts.{texts-length}
-use Rattle.passes.specs.Passes.{added, counted, tallied, withEnd, laidBehind, shownTexts, laidTexts, laidEnds}
-use Rattle.passes.specs.declared.Tally.{Tally}
-use Rattle.passes.specs.declared.Tally.the-variants as T
-use Rattle.passes.proofs.Shown.{nextText, shown-one, shown-all}
-use Rattle.passes.proofs.Tallies.{unlessStop, tally-is}
-use Rattle.passes.proofs.Fitting.{text-behind, empty-behind, end-behind}
+use Rattle.tallies.specs.Tallies.{added, counted, tallied, withEnd, laidBehind, shownTexts, laidTexts, laidEnds}
+use Rattle.tallies.specs.declared.Tally.{Tally}
+use Rattle.tallies.specs.declared.Tally.the-variants as T
+use Rattle.tallies.proofs.Shown.{nextText, shown-one, shown-all}
+use Rattle.tallies.proofs.Tallies.{unlessStop, tally-is}
+use Rattle.tallies.proofs.Fitting.{text-behind, empty-behind, end-behind}
 
 -- what was added up over pieces is the length of their texts, unless one of them is not printed
 tally-shown : (s row : List ℕ) (ps : List Placed) → tallied s row (T.Length 0) ps ≡ unlessStop (firstStop s row ps) (length (joined (shownTexts s row ps)))

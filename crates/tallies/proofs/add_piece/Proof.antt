@@ -1,11 +1,11 @@
--- `passes::add_piece` meets its contract. Assumes nothing.
+-- `tallies::add_piece` meets its contract. Assumes nothing.
 use mathlib.Core.Path.{ap, _∙_}
 use Rattle.elements.specs.declared.Size.{Size}
-use Rattle.passes.specs.Passes.{added}
-use Rattle.passes.proofs.Behind.{put-behind}
+use Rattle.tallies.specs.Tallies.{added}
+use Rattle.tallies.proofs.Behind.{put-behind}
 use borrow.Author.Needs.{needs}
-use Rattle.passes.proofs.add_piece.Statement.{statement}
-use Rattle.passes.proofs.add_piece.Tie as tie
+use Rattle.tallies.proofs.add_piece.Statement.{statement}
+use Rattle.tallies.proofs.add_piece.Tie as tie
 
 place-behind-requires : tie.Need-place-behind-requires
 place-behind-requires c κs = search needs

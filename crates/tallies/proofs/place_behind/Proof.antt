@@ -1,12 +1,12 @@
--- `passes::place_behind` meets its contract. Assumes nothing.
+-- `tallies::place_behind` meets its contract. Assumes nothing.
 use mathlib.Core.Path.{sym, ap, _∙_}
 use native.Mathlib.Nat.{min-eq-left, min-eq-right, le-refl}
 use native.Mathlib.Omega.{arith}
-use Rattle.passes.specs.Passes.{behind}
-use Rattle.passes.specs.declared.Tally.{Tally}
+use Rattle.tallies.specs.Tallies.{behind}
+use Rattle.tallies.specs.declared.Tally.{Tally}
 use borrow.Author.Needs.{needs}
-use Rattle.passes.proofs.place_behind.Statement.{statement}
-use Rattle.passes.proofs.place_behind.Tie as tie
+use Rattle.tallies.proofs.place_behind.Statement.{statement}
+use Rattle.tallies.proofs.place_behind.Tie as tie
 
 enum-known-tally : tie.Need-enum-known-tally
 enum-known-tally c = search needs

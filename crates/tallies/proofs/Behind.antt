@@ -12,9 +12,9 @@ use Rattle.writing.specs.Laid.{laid}
 use Rattle.writing.specs.Writers.{laidIfRoom}
 use Rattle.writing.proofs.Choose.{by-test}
 use Rattle.writing.proofs.Laid.{laid-none, laid-room, laid-next, lent-back}
-use Rattle.passes.specs.Passes.{behind, laidBehind}
-use Rattle.passes.specs.declared.Tally.{Tally}
-use Rattle.passes.specs.declared.Tally.the-variants.{Length, Stops}
+use Rattle.tallies.specs.Tallies.{behind, laidBehind}
+use Rattle.tallies.specs.declared.Tally.{Tally}
+use Rattle.tallies.specs.declared.Tally.the-variants.{Length, Stops}
 
 -- its own first bytes
 pub laid-self : (d : List ℕ) (n : ℕ) → n ≤ length d → laid d (take n d) ≡ d

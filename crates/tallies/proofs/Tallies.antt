@@ -10,10 +10,10 @@ use Rattle.elements.specs.Texts.{Shown, Text, Stops, textOf, stopOf}
 use Rattle.elements.specs.Sizes.{sizeOf}
 use Rattle.pieces.specs.PieceTexts.{shownPiece}
 use Rattle.outcomes.specs.Printed.{textsOf, joined, Stop, stopAt, firstStop, unlessStopped}
-use Rattle.passes.specs.Passes.{added, counted, tallied, outcomeOf}
+use Rattle.tallies.specs.Tallies.{added, counted, tallied, outcomeOf}
 use Rattle.outcomes.specs.declared.Outcome.the-variants.{Accepted}
-use Rattle.passes.specs.declared.Tally.{Tally}
-use Rattle.passes.specs.declared.Tally.the-variants as T
+use Rattle.tallies.specs.declared.Tally.{Tally}
+use Rattle.tallies.specs.declared.Tally.the-variants as T
 use Rattle.parsing.specs.declared.Ended.the-variants.{Finished}
 
 -- A length, unless a piece stops the count.

@@ -16,9 +16,9 @@ use Rattle.writing.proofs.Choose.{by-test}
 use Rattle.writing.proofs.Laid.{laid-none, laid-more}
 use Rattle.outcomes.specs.Printed.{joined, endsFrom}
 use Rattle.outcomes.proofs.Joined.{joined-one, ends-one, ends-length}
-use Rattle.passes.specs.Passes.{fitting, lowEnds, laidTexts, laidEnds, laidBehind}
-use Rattle.passes.specs.declared.Tally.the-variants.{Length}
-use Rattle.passes.proofs.Behind.{laid-self, laid-behind}
+use Rattle.tallies.specs.Tallies.{fitting, lowEnds, laidTexts, laidEnds, laidBehind}
+use Rattle.tallies.specs.declared.Tally.the-variants.{Length}
+use Rattle.tallies.proofs.Behind.{laid-self, laid-behind}
 
 -- with room for all, and without room for one more
 pub fitting-all : (room : ℕ) (ts : List (List ℕ)) → length (joined ts) ≤ room → fitting room ts ≡ joined ts

@@ -1,14 +1,14 @@
--- `passes::add_size` meets its contract. Assumes nothing.
+-- `tallies::add_size` meets its contract. Assumes nothing.
 use Prim.Native.Nat.{_+_, _*_, _^_, _≤_, _<_}
 use mathlib.Core.Path.{_≡_, refl, sym, ap, subst, _∙_}
 use native.Mathlib.Omega.{arith}
 use lib.Seq.{set-out}
 use Rattle.elements.specs.Sizes.{SizeBelow}
-use Rattle.passes.specs.Passes.{TallyBelow, addSize, added, withEnd}
-use Rattle.passes.specs.declared.Tally.{Tally}
+use Rattle.tallies.specs.Tallies.{TallyBelow, addSize, added, withEnd}
+use Rattle.tallies.specs.declared.Tally.{Tally}
 use borrow.Author.Needs.{needs}
-use Rattle.passes.proofs.add_size.Statement.{statement}
-use Rattle.passes.proofs.add_size.Tie as tie
+use Rattle.tallies.proofs.add_size.Statement.{statement}
+use Rattle.tallies.proofs.add_size.Tie as tie
 
 enum-known-tally : tie.Need-enum-known-tally
 enum-known-tally c = search needs

@@ -1,0 +1,5 @@
+pub mod Tallies
+mod Behind
+pub mod Fitting
+pub mod Shown
+pub mod Next
