@@ -3,8 +3,8 @@ use lib.Dec.{T}
 use lib.Ieee.{mul, ofBits, toBits}
 use Rattle.writing.specs.Text.{has}
 use Rattle.numerals.specs.Digits.{digitsIn, placesWithin, places, digits, numberFrom, numberOf, letterOf, lettersOf, numeral}
-use Rattle.numerals.specs.Grouping.{grouped}
-use Rattle.numerals.specs.Integers.{intOf}
+use Rattle.grouping.specs.Grouping.{grouped}
+use Rattle.integers.specs.Integers.{intOf}
 use Rattle.params.specs.Params.{leadingDigits, numberTaken, numberAt, paramAt}
 use Rattle.words.specs.LittleEndian.{littleEndian, wordAt}
 use Rattle.frames.specs.Frame.{spaces, headText, tailText, framed, spare, frameOf, padded}

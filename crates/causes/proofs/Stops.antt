@@ -8,7 +8,7 @@ use lib.IntN.{ℤ}
 use lib.ListN.{length}
 use Rattle.writing.specs.Text.{ascii, has}
 use Rattle.writing.proofs.Choose.{both}
-use Rattle.numerals.specs.Integers.{intOf}
+use Rattle.integers.specs.Integers.{intOf}
 use Rattle.conversions.specs.Kinds.{formOf, printsAs}
 use Rattle.conversions.specs.declared.Form.{Form}
 use Rattle.specifiers.specs.declared.Element.{Element}

@@ -13,7 +13,7 @@ use borrow.Author.Tests.{eqb-true, eq-eqb, ne-eqb, le-leb, lt-leb, lt-ltb, le-lt
 use Rattle.writing.specs.Choose.{choose}
 use Rattle.writing.specs.Text.{ascii, has}
 use Rattle.writing.proofs.Choose.{both}
-use Rattle.numerals.specs.Integers.{intOf, isNegative}
+use Rattle.integers.specs.Integers.{intOf, isNegative}
 use Rattle.letters.specs.Letters.{timeOf, smallOf, capitalOf}
 use Rattle.conversions.specs.Kinds.{integerForm, onlyIf, formOf}
 use Rattle.letters.specs.declared.ConversionType.{ConversionType}

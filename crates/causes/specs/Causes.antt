@@ -8,7 +8,7 @@ use lib.IntN.{ℤ, pos, negsuc}
 use lib.ListN.{length}
 use Rattle.refusals.specs.Limits.{mostFormat, mostKinds, largestEnd}
 use Rattle.writing.specs.Text.{ascii, has}
-use Rattle.numerals.specs.Integers.{intOf}
+use Rattle.integers.specs.Integers.{intOf}
 use Rattle.utf8.specs.Utf8.{wellFormed}
 use Rattle.grammar.specs.Runs.{begins}
 use Rattle.grammar.specs.Parts.{Written, Part, text, percent, newline, element, bytesBefore}

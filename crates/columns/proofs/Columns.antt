@@ -8,7 +8,7 @@ use mathlib.Core.Option.{none}
 use native.Mathlib.Omega.{arith}
 use lib.Dec.{eqb}
 use Rattle.writing.specs.Text.{ascii, has}
-use Rattle.numerals.specs.Integers.{intOf, bitsOf}
+use Rattle.integers.specs.Integers.{intOf, bitsOf}
 use Rattle.binary64.specs.Fields.{categoryOf}
 use Rattle.binary64.specs.declared.FpCategory.the-variants.{Finite}
 use Rattle.reading.specs.Reading.{Integer, Bits, readPiece}

@@ -6,7 +6,7 @@ use mathlib.Core.Bool.{Bool, true, false}
 use mathlib.Core.List.{List}
 use lib.IntN.{ℤ}
 use Rattle.writing.specs.Choose.{choose}
-use Rattle.numerals.specs.Integers.{intOf, bitsOf}
+use Rattle.integers.specs.Integers.{intOf, bitsOf}
 use Rattle.params.specs.declared.NumericParam.{NumericParam}
 use Rattle.binary64.specs.Fields.{categoryOf}
 use Rattle.binary64.specs.declared.FpCategory.{FpCategory}

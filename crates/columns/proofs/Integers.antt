@@ -12,8 +12,8 @@ use lib.Pow.{pow-mono}
 use borrow.Author.Tests.{leb-true, le-ltb}
 use Rattle.writing.proofs.Choose.{by-test}
 use Rattle.numerals.specs.Digits.{digits, lettersOf, numeral, decimal}
-use Rattle.numerals.specs.Integers.{intOf, isNegative, signed, bitsOf, InWidth}
-use Rattle.numerals.proofs.Integers.{sign-magnitude, intOf-low, intOf-high, low-bits}
+use Rattle.integers.specs.Integers.{intOf, isNegative, signed, bitsOf, InWidth}
+use Rattle.integers.proofs.Integers.{sign-magnitude, intOf-low, intOf-high, low-bits}
 use Rattle.params.specs.Params.{widthOf}
 use Rattle.frames.specs.Signs.{isMinus}
 use Rattle.frames.specs.declared.Mark.{Mark}

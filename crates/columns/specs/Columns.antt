@@ -5,7 +5,7 @@ use mathlib.Core.Path.{_≡_}
 use mathlib.Core.Bool.{true, false}
 use mathlib.Core.List.{List}
 use Rattle.writing.specs.Text.{ascii, has}
-use Rattle.numerals.specs.Integers.{intOf, bitsOf}
+use Rattle.integers.specs.Integers.{intOf, bitsOf}
 use Rattle.params.specs.declared.NumericParam.{NumericParam}
 use Rattle.binary64.specs.Fields.{categoryOf}
 use Rattle.binary64.specs.declared.FpCategory.the-variants.{Finite}

@@ -9,7 +9,7 @@ use lib.ListN.{take}
 use Rattle.writing.specs.Choose.{choose}
 use Rattle.writing.specs.Text.{ascii}
 use Rattle.numerals.specs.Digits.{digitsIn, places, lettersOf}
-use Rattle.numerals.specs.Integers.{isNegative}
+use Rattle.integers.specs.Integers.{isNegative}
 use Rattle.letters.specs.Letters.{lookup}
 use Rattle.letters.specs.declared.TimeFormat.{TimeFormat}
 use Rattle.letters.specs.declared.TimeFormat.the-variants as T

@@ -5,7 +5,7 @@ use letters::TimeFormat;
 ghost use mathlib.Core.Path.{_≡_};
 ghost use Prim.Native.Nat.{_+_, _≤_};
 ghost use lib.ListN.{length};
-ghost use Rattle.numerals.specs.Integers.{intOf};
+ghost use Rattle.integers.specs.Integers.{intOf};
 ghost use Rattle.components.specs.Names.{monthNames, weekdayNames, nameOf};
 ghost use Rattle.components.specs.Components.{clock12, short, signText, nameText, symbolText, patternOf, isEarlyFraction};
 ghost use Rattle.components.specs.Steps.{patterns, words, within, Inside, halfFrom, partText, Fitting, roomOf, room};
@@ -143,7 +143,7 @@ fn short(name: Span) -> Span
 fn sign(timestamp: u64) -> Span
     ensures { λ r. ⌜ (within words r ≡ signText (intOf 64 timestamp)) × Inside words r ⌝ }
 {
-    if numerals::is_negative(timestamp) {
+    if integers::is_negative(timestamp) {
         return Span { start: 140, len: 1 };
     }
     Span { start: 140, len: 0 }
@@ -174,7 +174,7 @@ pub fn part_of(letter: u8, m: Moment, timestamp: u64) -> TimePart
     ensures { λ r. ⌜ (partText r ≡ symbolText (intOf 64 timestamp) m letter) × (Fitting r × (roomOf r ≤ room letter)) ⌝ }
 {
     let hour12 = clock12(m.hour);
-    let magnitude = numerals::magnitude(timestamp);
+    let magnitude = integers::magnitude(timestamp);
     match letter {
         b'H' => TimePart::Number(2, m.hour),
         b'I' => TimePart::Number(2, hour12),
@@ -201,8 +201,8 @@ pub fn part_of(letter: u8, m: Moment, timestamp: u64) -> TimePart
 pub fn is_early_fraction(timestamp: u64) -> bool
     ensures { λ r. ⌜ r ≡ isEarlyFraction (intOf 64 timestamp) ⌝ }
 {
-    if numerals::is_negative(timestamp) {
-        return 0 < numerals::magnitude(timestamp) % 1000000000;
+    if integers::is_negative(timestamp) {
+        return 0 < integers::magnitude(timestamp) % 1000000000;
     }
     false
 }

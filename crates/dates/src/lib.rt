@@ -8,7 +8,7 @@ use numerals::Radix;
 ghost use Prim.Native.Nat.{_+_, _≤_};
 ghost use lib.ListN.{length};
 ghost use Rattle.writing.specs.Writers.{Wrote, Put};
-ghost use Rattle.numerals.specs.Integers.{intOf};
+ghost use Rattle.integers.specs.Integers.{intOf};
 ghost use Rattle.strings.specs.Cut.{cased};
 ghost use Rattle.calendar.specs.Moments.{momentOf};
 ghost use Rattle.components.specs.Components.{numberText, symbolsText, componentText};

@@ -7,7 +7,7 @@ use lib.Dec.{eqb}
 use lib.IntN.{ℤ, natAbs}
 use Rattle.writing.specs.Choose.{choose}
 use Rattle.writing.specs.Text.{ascii}
-use Rattle.numerals.specs.Integers.{intOf, isNegative}
+use Rattle.integers.specs.Integers.{intOf, isNegative}
 use Rattle.frames.specs.declared.Mark.the-variants.{NoMark}
 use Rattle.binary64.specs.Fields.{negative, categoryOf}
 use Rattle.binary64.specs.declared.FpCategory.{FpCategory}

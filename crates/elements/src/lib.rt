@@ -14,7 +14,7 @@ ghost use Prim.Native.Nat.{_^_, _<_};
 ghost use lib.IntN.{natAbs};
 ghost use lib.ListN.{length};
 ghost use Rattle.writing.specs.Writers.{Put};
-ghost use Rattle.numerals.specs.Integers.{intOf, isNegative};
+ghost use Rattle.integers.specs.Integers.{intOf, isNegative};
 ghost use Rattle.binary64.specs.Fields.{categoryOf};
 ghost use Rattle.conversions.specs.declared.Form.the-variants as F;
 ghost use Rattle.elements.specs.Texts.{charText, floatText, integerText, timeText, valueText, elementText, textOf};
@@ -30,10 +30,10 @@ pub enum Size {
 fn format_char(out: &mut [u8], e: Element, value: u64) -> Size
     ensures { λ r. ⌜ Sized (now (out .entry)) (charText e (isNegative (intOf 64 value)) (natAbs (intOf 64 value))) r (now (out .exit)) ⌝ }
 {
-    if numerals::is_negative(value) {
+    if integers::is_negative(value) {
         return Size::Stops(refusals::NO_SCALAR);
     }
-    let magnitude = numerals::magnitude(value);
+    let magnitude = integers::magnitude(value);
     if scalars::is_scalar(magnitude) {
         let mut buffer = [0u8; 4];
         let n = scalars::write_scalar(&mut buffer, magnitude as u32);

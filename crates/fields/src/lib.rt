@@ -11,7 +11,7 @@ ghost use Prim.Native.Nat.{_^_, _≤_, _<_};
 ghost use lib.IntN.{natAbs};
 ghost use lib.ListN.{length};
 ghost use Rattle.writing.specs.Writers.{Wrote, Put};
-ghost use Rattle.numerals.specs.Integers.{intOf, isNegative};
+ghost use Rattle.integers.specs.Integers.{intOf, isNegative};
 ghost use Rattle.fields.specs.Texts.{side, paddedText, formatString, signedText};
 
 // Where spaces stand: behind with `-`, else in front.
@@ -78,8 +78,8 @@ pub fn format_signed_text(out: &mut [u8], e: Element, value: u64) -> u64
     let mut buffer = [0u8; 21];
     let n = write_signed_text(
         &mut buffer,
-        numerals::is_negative(value),
-        numerals::magnitude(value),
+        integers::is_negative(value),
+        integers::magnitude(value),
     );
     format_string(out, e, &buffer[..n])
 }

@@ -5,8 +5,8 @@ use mathlib.Core.List.{List}
 use lib.IntN.{natAbs}
 use Rattle.writing.specs.Choose.{choose}
 use Rattle.numerals.specs.Digits.{numeral, decimal}
-use Rattle.numerals.specs.Grouping.{grouped}
-use Rattle.numerals.specs.Integers.{intOf, isNegative}
+use Rattle.grouping.specs.Grouping.{grouped}
+use Rattle.integers.specs.Integers.{intOf, isNegative}
 use Rattle.params.specs.Params.{widthOf}
 use Rattle.frames.specs.Frame.{padded}
 use Rattle.frames.specs.declared.Mark.{Mark}

@@ -6,8 +6,8 @@ use lib.IntN.{natAbs}
 use Rattle.writing.specs.Choose.{choose}
 use Rattle.numerals.specs.Bases.{baseOf}
 use Rattle.numerals.specs.Digits.{numeral, decimal}
-use Rattle.numerals.specs.Grouping.{grouped}
-use Rattle.numerals.specs.Integers.{intOf, isNegative}
+use Rattle.grouping.specs.Grouping.{grouped}
+use Rattle.integers.specs.Integers.{intOf, isNegative}
 use Rattle.frames.specs.declared.Mark.the-variants.{NoMark}
 use Rattle.frames.specs.declared.Prefix.{Prefix}
 use Rattle.frames.specs.declared.Prefix.the-variants.{NoPrefix, Octal}

@@ -95,7 +95,7 @@ fn numeral_len(n: Numeral) -> usize
     ensures { λ r. ⌜ (r ≡ length (digitsText n)) × (r < 2 ^ 32) ⌝ }
 {
     if n.grouped {
-        return numerals::grouped_len(n.value);
+        return grouping::grouped_len(n.value);
     }
     let radix = n.radix;
     numerals::digits_len(n.value, radix)
@@ -107,7 +107,7 @@ fn write_numeral(out: &mut [u8], n: Numeral, len: usize) -> usize
     ensures { λ r. ⌜ Wrote (now (out .entry)) (digitsText n) r (now (out .exit)) ⌝ }
 {
     if n.grouped {
-        return numerals::write_grouped(out, n.value, len);
+        return grouping::write_grouped(out, n.value, len);
     }
     let radix = n.radix;
     numerals::write_digits(out, n.value, radix, len, n.upper)
@@ -167,9 +167,9 @@ fn signed_numeral(flags: Flags, value: u64) -> Numeral
     ensures { λ r. ⌜ r ≡ signedNumeral flags value ⌝ }
 {
     Numeral {
-        mark: integer_mark(flags, numerals::is_negative(value)),
+        mark: integer_mark(flags, integers::is_negative(value)),
         prefix: Prefix::NoPrefix,
-        value: numerals::magnitude(value),
+        value: integers::magnitude(value),
         radix: Radix::Decimal,
         upper: false,
         grouped: flags.grouping,
@@ -198,13 +198,13 @@ fn numeral_of(e: Element, radix: Radix, width: u32, value: u64) -> Numeral
     match radix {
         Radix::Decimal => signed_numeral(flags, value),
         Radix::Octal => {
-            let bits = numerals::low_bits(value, width);
+            let bits = integers::low_bits(value, width);
             let prefix = if_alternate(flags, Prefix::Octal);
             unsigned_numeral(prefix, Radix::Octal, false, bits)
         }
         Radix::Hexadecimal => {
             let upper = e.upper;
-            let bits = numerals::low_bits(value, width);
+            let bits = integers::low_bits(value, width);
             let prefix = if_alternate(flags, hex_prefix(upper));
             unsigned_numeral(prefix, Radix::Hexadecimal, upper, bits)
         }

@@ -1,4 +1,2 @@
 pub mod Digits
 pub mod Bases
-pub mod Integers
-pub mod Grouping

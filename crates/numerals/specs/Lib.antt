@@ -1,4 +1,2 @@
 pub mod Digits
-pub mod Grouping
-pub mod Integers
 pub mod Bases

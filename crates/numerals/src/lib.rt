@@ -1,15 +1,12 @@
-// Whole numbers as text: digits in a base, commas, two's complement.
-// Ported in part from format_string.rs of datafusion-spark 55.2.0 (Apache-2.0; see NOTICE): insert_thousands_separator, and the digit writing of
-// format_unsigned and format_signed.
+// Whole numbers as text: digits in a base.
+// Ported in part from format_string.rs of datafusion-spark 55.2.0 (Apache-2.0; see NOTICE): the digit writing of format_unsigned and
+// format_signed.
 ghost use mathlib.Core.Path.{_≡_};
-ghost use Prim.Native.Nat.{_%_, _^_, _≤_, _<_};
-ghost use lib.IntN.{natAbs};
+ghost use Prim.Native.Nat.{_^_, _≤_, _<_};
 ghost use lib.ListN.{length};
 ghost use Rattle.writing.specs.Writers.{Wrote};
 ghost use Rattle.numerals.specs.Digits.{digitsIn, places, letterOf, lettersOf, decimal};
 ghost use Rattle.numerals.specs.Bases.{baseOf};
-ghost use Rattle.numerals.specs.Grouping.{grouped};
-ghost use Rattle.numerals.specs.Integers.{intOf, isNegative};
 
 // The base in which a number is written.
 pub enum Radix {
@@ -19,7 +16,7 @@ pub enum Radix {
 }
 
 // The letter of a digit below 16: small, or capital where upper is set.
-fn digit_letter(digit: u64, upper: bool) -> u8
+pub fn digit_letter(digit: u64, upper: bool) -> u8
     requires { ⌜ digit < 16 ⌝ }
     ensures { λ r. ⌜ r ≡ letterOf upper digit ⌝ }
 {
@@ -116,62 +113,4 @@ pub fn write_digits(out: &mut [u8], x: u64, radix: Radix, n: usize, upper: bool)
         Radix::Octal => write_places(out, x, 8, n, upper),
         Radix::Hexadecimal => write_places(out, x, 16, n, upper),
     }
-}
-
-// The length of x in decimal with commas, from its number of digits.
-pub fn grouped_len(x: u64) -> usize
-    ensures { λ r. ⌜ r ≡ length (grouped (decimal x)) ⌝ }
-{
-    let n = decimal_len(x);
-    n + (n - 1) / 3
-}
-
-// Writes x in decimal with commas, n bytes in all. Answers n.
-pub fn write_grouped(out: &mut [u8], x: u64, n: usize) -> usize
-    requires { ⌜ (n ≡ length (grouped (decimal x))) × (n ≤ length (now out)) ⌝ }
-    ensures { λ r. ⌜ Wrote (now (out .entry)) (grouped (decimal x)) r (now (out .exit)) ⌝ }
-{
-    let mut v = x;
-    let mut run: u64 = 0;
-    let mut i = n;
-    while 0 < i {
-        i = i - 1;
-        if run == 3 {
-            out[i] = b',';
-            run = 0;
-        } else {
-            out[i] = digit_letter(v % 10, false);
-            v = v / 10;
-            run = run + 1;
-        }
-    }
-    n
-}
-
-// Whether the 64-bit integer with the two's complement bits x is negative.
-pub fn is_negative(x: u64) -> bool
-    ensures { λ r. ⌜ r ≡ isNegative (intOf 64 x) ⌝ }
-{
-    0x8000_0000_0000_0000 <= x
-}
-
-// The absolute value of the 64-bit integer with the two's complement bits x. 01: "the magnitude of the least 64-bit integer is kept, though its
-// negation wraps".
-pub fn magnitude(x: u64) -> u64
-    ensures { λ r. ⌜ r ≡ natAbs (intOf 64 x) ⌝ }
-{
-    if x < 0x8000_0000_0000_0000 {
-        return x;
-    }
-    std::num::wrapping_sub_u64(0, x)
-}
-
-// The low bits of x: of a sign-extended value, its two's complement bits at that width.
-pub fn low_bits(x: u64, width: u32) -> u64
-    ensures { λ r. ⌜ r ≡ x % 2 ^ width ⌝ }
-{
-    if 64 <= width {
-        return x;
-    }
-    x % (1u64 << width)
 }

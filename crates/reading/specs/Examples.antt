@@ -9,8 +9,8 @@ use lib.IntN.{ℤ, pos, negsuc, natAbs}
 use Rattle.writing.specs.Text.{ascii}
 use Rattle.writing.specs.Laid.{laid}
 use Rattle.numerals.specs.Digits.{digitsIn, places, lettersOf, numberOf, numeral, decimal}
-use Rattle.numerals.specs.Grouping.{grouped}
-use Rattle.numerals.specs.Integers.{intOf, bitsOf}
+use Rattle.grouping.specs.Grouping.{grouped}
+use Rattle.integers.specs.Integers.{intOf, bitsOf}
 use Rattle.params.specs.Params.{paramAt}
 use Rattle.params.specs.declared.NumericParam.the-variants.{Literal, FromArgument}
 use Rattle.params.specs.declared.Taken.{Taken}

@@ -2,7 +2,7 @@
 use mathlib.Core.Path.{sym}
 use lib.Seq.{length-take-le}
 use native.Mathlib.Omega.{arith}
-use Rattle.numerals.specs.Integers.{intOf}
+use Rattle.integers.specs.Integers.{intOf}
 use Rattle.strings.proofs.Cased.{length-cased}
 use Rattle.writing.proofs.Laid.{wrote-start}
 use Rattle.components.specs.Components.{componentText}

@@ -1,4 +1,4 @@
--- `numerals::write_grouped` meets its contract. The loop's invariant: the bytes from place i on are stored, and v with the digits since the last comma
+-- `grouping::write_grouped` meets its contract. The loop's invariant: the bytes from place i on are stored, and v with the digits since the last comma
 -- gives those before them. Assumes nothing.
 use Prim.Native.Nat.{ℕ, _+_, _/_, _≤_}
 use Prim.Native.Char.{code}
@@ -6,13 +6,13 @@ use mathlib.Core.Path.{sym, ap, _∙_}
 use native.Mathlib.Omega.{arith}
 use borrow.Author.Tests.{eq-eqb, ne-eqb}
 use Rattle.writing.proofs.FromRight.{fromRight}
 use Rattle.numerals.specs.Digits.{decimal}
-use Rattle.numerals.specs.Grouping.{grouped}
-use Rattle.numerals.proofs.Grouping.{groupByte, groupNext, grouped-right}
+use Rattle.grouping.specs.Grouping.{grouped}
+use Rattle.grouping.proofs.Grouping.{groupByte, groupNext, grouped-right}
 use Rattle.writing.proofs.Backwards.{Written, written-none, written-turn, written-all}
 use borrow.Author.Needs.{needs}
-use Rattle.numerals.proofs.write_grouped.Statement.{statement}
-use Rattle.numerals.proofs.write_grouped.Tie as tie
+use Rattle.grouping.proofs.write_grouped.Statement.{statement}
+use Rattle.grouping.proofs.write_grouped.Tie as tie
 
 abbrev Inv-loop : tie.InvT-loop
 Inv-loop out₀ x n v₀ run₀ i₀ out v run i =

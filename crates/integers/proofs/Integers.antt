@@ -8,7 +8,7 @@ use lib.Dec.{leb}
 use lib.IntN.{ℤ, pos, negsuc, negℤ, natAbs}
 use lib.Pow.{pow-pos, pow-lt, not-mod}
 use borrow.Author.Tests.{lt-ltb, le-ltb, le-leb, lt-leb}
-use Rattle.numerals.specs.Integers.{intOf, isNegative, signed, bitsOf, InWidth}
+use Rattle.integers.specs.Integers.{intOf, isNegative, signed, bitsOf, InWidth}
 
 pub sign-magnitude : (z : ℤ) → signed (isNegative z) (natAbs z) ≡ z
 sign-magnitude (pos n) = refl

@@ -1,10 +1,10 @@
--- `numerals::grouped_len` meets its contract: a comma for each three digits past the first three or fewer. Assumes nothing.
+-- `grouping::grouped_len` meets its contract: a comma for each three digits past the first three or fewer. Assumes nothing.
 use native.Mathlib.Omega.{arith}
 use Rattle.numerals.proofs.Digits.{places-pos, twenty-places}
-use Rattle.numerals.proofs.Grouping.{length-grouped-decimal}
+use Rattle.grouping.proofs.Grouping.{length-grouped-decimal}
 use borrow.Author.Needs.{needs}
-use Rattle.numerals.proofs.grouped_len.Statement.{statement}
-use Rattle.numerals.proofs.grouped_len.Tie as tie
+use Rattle.grouping.proofs.grouped_len.Statement.{statement}
+use Rattle.grouping.proofs.grouped_len.Tie as tie
 
 decimal-len-requires : tie.Need-decimal-len-requires
 decimal-len-requires c κs = search needs

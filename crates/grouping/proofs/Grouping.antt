@@ -12,10 +12,10 @@ use lib.ListN.{length, length-append}
 use borrow.Author.Tests.{lt-ltb, eq-eqb, ne-eqb}
 use Rattle.writing.specs.Choose.{choose}
 use Rattle.writing.proofs.FromRight.{fromRight}
 use Rattle.numerals.specs.Digits.{digitsIn, places, digits, letterOf, lettersOf, numeral, decimal}
-use Rattle.numerals.specs.Grouping.{commaAfter, grouped}
+use Rattle.grouping.specs.Grouping.{commaAfter, grouped}
 use Rattle.writing.proofs.Backwards.{right-more}
 use Rattle.numerals.proofs.Digits.{letters-append, length-numeral}
 
 -- a comma, or none
 comma : (r : ℕ) → r % 3 ≡ 2 → commaAfter (suc r) ≡ 44 ∷ []

@@ -1,10 +1,10 @@
--- `numerals::magnitude` meets its contract. Assumes nothing.
+-- `integers::magnitude` meets its contract. Assumes nothing.
 use mathlib.Core.Path.{sym}
 use native.Mathlib.Omega.{arith}
-use Rattle.numerals.proofs.Integers.{magnitude-low, magnitude-high}
+use Rattle.integers.proofs.Integers.{magnitude-low, magnitude-high}
 use borrow.Author.Needs.{needs}
-use Rattle.numerals.proofs.magnitude.Statement.{statement}
-use Rattle.numerals.proofs.magnitude.Tie as tie
+use Rattle.integers.proofs.magnitude.Statement.{statement}
+use Rattle.integers.proofs.magnitude.Tie as tie
 
 returns : tie.Need-returns
 returns c = sym (magnitude-low 64 (c .before .args .x) (c .if1 .taken))

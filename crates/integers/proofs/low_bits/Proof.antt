@@ -1,13 +1,13 @@
--- `numerals::low_bits` meets its contract: a shift of 64 or more would lose the bit, so that such a width leaves x as it is. Assumes nothing.
+-- `integers::low_bits` meets its contract: a shift of 64 or more would lose the bit, so that such a width leaves x as it is. Assumes nothing.
 use Prim.Native.Nat.{ℕ, _%_, _^_, _<_}
 use mathlib.Core.Path.{sym, ap, subst}
 use native.Mathlib.Nat.{lt-of-lt-of-le, mod-eq-of-lt}
 use native.Mathlib.Omega.{arith}
 use lib.Pow.{pow-pos, pow-mono}
-use Rattle.numerals.proofs.Integers.{one-bit}
+use Rattle.integers.proofs.Integers.{one-bit}
 use borrow.Author.Needs.{needs}
-use Rattle.numerals.proofs.low_bits.Statement.{statement}
-use Rattle.numerals.proofs.low_bits.Tie as tie
+use Rattle.integers.proofs.low_bits.Statement.{statement}
+use Rattle.integers.proofs.low_bits.Tie as tie
 
 returns : tie.Need-returns
 returns c =

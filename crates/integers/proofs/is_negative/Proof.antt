@@ -1,0 +1,11 @@
+-- `integers::is_negative` meets its contract: the sign bit. Assumes nothing.
+use native.Mathlib.Omega.{arith}
+use Rattle.integers.proofs.Integers.{negative-test}
+use Rattle.integers.proofs.is_negative.Statement.{statement}
+use Rattle.integers.proofs.is_negative.Tie as tie
+
+returns : tie.Need-returns
+returns c = negative-test 64 (c .args .x) (omega arith)
+
+pub is-negative-spec : {M : Type 1} → statement M
+is-negative-spec = tie.close (tie.spec returns)
