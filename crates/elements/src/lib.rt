@@ -93,7 +93,11 @@ fn format_time(out: &mut [u8], component: TimeFormat, value: u64, upper: bool) -
     if components::is_early_fraction(value) {
         return Size::Stops(refusals::NO_WHOLE_SECOND);
     }
-    Size::Bytes(dates::put_component(out, component, value, upper) as u64)
+    // Called from two places, so that it is compiled apart from the loop over pieces, which has to be quick for numbers.
+    if upper {
+        return Size::Bytes(dates::put_component(out, component, value, true) as u64);
+    }
+    Size::Bytes(dates::put_component(out, component, value, false) as u64)
 }
 
 // Writes an element for a row's entry where there is room for it: its kind byte, the text it names, its value.
@@ -116,13 +120,7 @@ pub fn put_element(out: &mut [u8], e: Element, kind: u8, part: &[u8], value: u64
         Form::HexFloat => Size::Bytes(format_hex_float(out, e, value)),
         Form::Boolean => Size::Bytes(format_boolean(out, e, value)),
         Form::Text => Size::Bytes(fields::format_string(out, e, part)),
-        Form::Time(component) => {
-            // Called from two places, so that it is compiled apart from the loop over pieces, which has to be quick for numbers.
-            if e.upper {
-                return format_time(out, component, value, true);
-            }
-            format_time(out, component, value, false)
-        }
+        Form::Time(component) => format_time(out, component, value, e.upper),
         Form::NotPrinted => Size::Stops(refusals::NOT_PRINTED),
     }
 }

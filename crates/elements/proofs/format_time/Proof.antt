@@ -22,10 +22,26 @@ same-length c = search needs
 returns-2 : tie.Need-returns-2
 returns-2 c =
     let put = c .before .before in
-    let told = put .before .before in
+    let upper = put .before .before in
+    let told = upper .before in
     let a = told .before .before .before .args in
     let h = put .put-component .ensures in
-    sized-text (a .out .now) _ _ _ _ (simp (← told .before .is-early-fraction .ensures, told .if1 .left)) (h .0, omega (arith, h .1))
+    sized-text (a .out .now) _ _ _ _ (simp (← told .before .is-early-fraction .ensures, told .if1 .left, upper .if2 .taken)) (h .0, omega (arith, h .1))
+
+put-component-requires-2 : tie.Need-put-component-requires-2
+put-component-requires-2 c κs = search needs
+
+same-length-2 : tie.Need-same-length-2
+same-length-2 c = search needs
+
+returns-3 : tie.Need-returns-3
+returns-3 c =
+    let put = c .before .before in
+    let small = put .before .before in
+    let told = small .before in
+    let a = told .before .before .before .args in
+    let h = put .put-component2 .ensures in
+    sized-text (a .out .now) _ _ _ _ (simp (← told .before .is-early-fraction .ensures, told .if1 .left, small .if2 .left)) (h .0, omega (arith, h .1))
 
 pub format-time-spec : {M : Type 1} → statement M
 format-time-spec =
@@ -35,4 +51,7 @@ format-time-spec =
     returns
     put-component-requires
     same-length
-    returns-2)
+    returns-2
+    put-component-requires-2
+    same-length-2
+    returns-3)

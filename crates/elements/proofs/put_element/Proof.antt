@@ -59,6 +59,9 @@ enum-known-form-2 c = search needs
 format-time-requires : tie.Need-format-time-requires
 format-time-requires c κs = search needs
 
+enum-told-4 : tie.Need-enum-told-4
+enum-told-4 c = search needs
+
 same-length-2 : tie.Need-same-length-2
 same-length-2 c = search needs
 
@@ -69,13 +72,8 @@ returns-2 c =
     let tested = put .before .before in
     let known = tested .before .before in
     let form = known .before .before in
-    simp (← form .prints-as .ensures, known .form2 .given .1, tested .if2 .taken) (put .format-time .ensures)
-
-format-time-requires-2 : tie.Need-format-time-requires-2
-format-time-requires-2 c κs = search needs
-
-enum-told-4 : tie.Need-enum-told-4
-enum-told-4 c = search needs
+    let a = form .before .before .before .args in
+    simp (← form .prints-as .ensures, known .form .given .1, lt-leb 128 (a .kind) (tested .if1 .left)) (put .format-integer .ensures)
 
 same-length-3 : tie.Need-same-length-3
 same-length-3 c = search needs
@@ -84,11 +82,10 @@ returns-3 : tie.Need-returns-3
 unfolding elementText
 returns-3 c =
     let put = c .before .before in
-    let tested = put .before .before in
-    let known = tested .before .before in
-    let form = known .before .before in
+    let told = put .before .before in
+    let form = told .before .before in
     let a = form .before .before .before .args in
-    simp (← form .prints-as .ensures, known .form .given .1, lt-leb 128 (a .kind) (tested .if1 .left)) (put .format-integer .ensures)
+    sized-text (a .out .now) _ _ _ _ (simp (← form .prints-as .ensures, told .enum-told .given .1)) (put .format-hex-float .ensures)
 
 same-length-4 : tie.Need-same-length-4
 same-length-4 c = search needs
@@ -100,7 +97,7 @@ returns-4 c =
     let told = put .before .before in
     let form = told .before .before in
     let a = form .before .before .before .args in
-    sized-text (a .out .now) _ _ _ _ (simp (← form .prints-as .ensures, told .enum-told .given .1)) (put .format-hex-float .ensures)
+    sized-text (a .out .now) _ _ _ _ (simp (← form .prints-as .ensures, told .enum-told2 .given .1)) (put .format-boolean .ensures)
 
 same-length-5 : tie.Need-same-length-5
 same-length-5 c = search needs
@@ -112,7 +109,7 @@ returns-5 c =
     let told = put .before .before in
     let form = told .before .before in
     let a = form .before .before .before .args in
-    sized-text (a .out .now) _ _ _ _ (simp (← form .prints-as .ensures, told .enum-told2 .given .1)) (put .format-boolean .ensures)
+    sized-text (a .out .now) _ _ _ _ (simp (← form .prints-as .ensures, told .enum-told3 .given .1)) (put .format-string2 .ensures)
 
 same-length-6 : tie.Need-same-length-6
 same-length-6 c = search needs
@@ -121,26 +118,13 @@ returns-6 : tie.Need-returns-6
 unfolding elementText
 returns-6 c =
     let put = c .before .before in
-    let told = put .before .before in
-    let form = told .before .before in
-    let a = form .before .before .before .args in
-    sized-text (a .out .now) _ _ _ _ (simp (← form .prints-as .ensures, told .enum-told3 .given .1)) (put .format-string2 .ensures)
-
-same-length-7 : tie.Need-same-length-7
-same-length-7 c = search needs
+    let known = put .before .before .before in
+    let form = known .before .before in
+    simp (← form .prints-as .ensures, known .form2 .given .1) (put .format-time .ensures)
 
 returns-7 : tie.Need-returns-7
 unfolding elementText
 returns-7 c =
-    let put = c .before .before in
-    let tested = put .before .before in
-    let known = tested .before .before in
-    let form = known .before .before in
-    simp (← form .prints-as .ensures, known .form2 .given .1, tested .if2 .left) (put .format-time2 .ensures)
-
-returns-8 : tie.Need-returns-8
-unfolding elementText
-returns-8 c =
     let form = c .before .before in
     let a = form .before .before .before .args in
     sized-stop (a .out .now) _ 15 (simp (← form .prints-as .ensures, c .enum-told4 .given .1))
@@ -164,10 +148,9 @@ put-element-spec =
     format-string-requires-2
     enum-known-form-2
     format-time-requires
+    enum-told-4
     same-length-2
     returns-2
-    format-time-requires-2
-    enum-told-4
     same-length-3
     returns-3
     same-length-4
@@ -176,6 +159,4 @@ put-element-spec =
     returns-5
     same-length-6
     returns-6
-    same-length-7
-    returns-7
-    returns-8)
+    returns-7)
