@@ -1,4 +1,4 @@
--- What the functions of this crate are told and answer. No contract of an entry speaks of these.
+-- What the functions of this crate, and of `dates`, are told and answer. No contract of an entry speaks of these.
 use Prim.Native.Nat.{ℕ, _+_, _≤_}
 use mathlib.Core.List.{List, [], _∷_}
 use lib.ListN.{length, take, drop}
