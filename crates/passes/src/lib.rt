@@ -92,7 +92,8 @@ pub fn walk<'a>(
             };
         };
         if prints {
-            tally = tallies::add_piece(fmt, row, piece, at, k, tally, out, ends);
+            let size = tallies::put_behind(fmt, row, piece, tally, out);
+            tally = tallies::add_size(tally, size, at, k, ends);
         }
         largest = larger(largest, argument_of(piece));
         k = k + 1;

@@ -4,10 +4,10 @@ use elements::Size;
 use parsing::Piece;
 ghost use mathlib.Core.Path.{_≡_};
 ghost use Prim.Native.Nat.{_+_, _≤_, _<_};
-ghost use Rattle.elements.specs.Sizes.{SizeBelow};
-ghost use Rattle.pieces.specs.PieceTexts.{pieceText};
+ghost use Rattle.elements.specs.Sizes.{sizeOf, SizeBelow};
+ghost use Rattle.pieces.specs.PieceTexts.{shownPiece, pieceText};
 ghost use Rattle.pieces.specs.Ready.{Ready};
-ghost use Rattle.tallies.specs.Tallies.{TallyBelow, behind, withEnd, added, counted, laidBehind};
+ghost use Rattle.tallies.specs.Tallies.{TallyBelow, behind, withEnd, added, laidBehind};
 
 // What a pass adds up: the length of the pieces so far, or the first of them that is not printed.
 pub enum Tally {
@@ -28,46 +28,45 @@ fn place_behind(tally: Tally, room: usize) -> usize
     room
 }
 
-// One more size, of the k-th piece, which begins at a place, and its end. The first piece that is not printed stays.
-fn add_size(tally: Tally, size: Size, at: usize, k: usize, ends: &mut [u32]) -> Tally
-    requires { ⌜ (SizeBelow size) × (k < 512) × (TallyBelow k tally) ⌝ }
-    ensures { λ r. ⌜ (r ≡ added at size tally) × (TallyBelow (k + 1) r) × (now (ends .exit) ≡ withEnd k r (now (ends .entry))) ⌝ }
-{
-    let Tally::Length(n) = tally else {
-        return tally;
-    };
-    match size {
-        Size::Bytes(m) => {
-            let end = n + m;
-            if k < ends.len() {
-                ends[k] = (end % 4294967296) as u32;
-            }
-            Tally::Length(end)
-        }
-        Size::Stops(number) => Tally::Stops {
-            number: number,
-            place: at,
-        },
-    }
-}
-
-// One more piece, the k-th, which begins at a place: behind the pieces so far, in the output's part from there on.
-pub fn add_piece<'a>(
+// Writes a piece behind the pieces so far, into the output's part from there on, where there is room for it. Answers its size.
+pub fn put_behind<'a>(
     fmt: &'a [u8],
     row: &'a [u8],
     piece: Piece,
-    at: usize,
-    k: usize,
     tally: Tally,
     out: &mut [u8],
-    ends: &mut [u32],
-) -> Tally
-    requires { ⌜ (Ready (now fmt) (now row) piece) × (k < 512) × (TallyBelow k tally) ⌝ }
-    ensures { λ r. ⌜ (r ≡ counted (now (fmt .entry)) (now (row .entry)) piece at tally) × (TallyBelow (k + 1) r) ⌝ }
+) -> Size
+    requires { ⌜ Ready (now fmt) (now row) piece ⌝ }
+    ensures { λ r. ⌜ (r ≡ sizeOf (shownPiece (now (fmt .entry)) (now (row .entry)) piece)) × SizeBelow r ⌝ }
     ensures { λ r. ⌜ now (out .exit) ≡ laidBehind tally (now (out .entry)) (pieceText (now (fmt .entry)) (now (row .entry)) piece) ⌝ }
-    ensures { λ r. ⌜ now (ends .exit) ≡ withEnd k r (now (ends .entry)) ⌝ }
 {
     let from = place_behind(tally, out.len());
-    let size = pieces::put_piece(&mut out[from..], fmt, row, piece);
-    add_size(tally, size, at, k, ends)
+    pieces::put_piece(&mut out[from..], fmt, row, piece)
+}
+
+// One more size, of the k-th piece, which begins at a place, and its end. The first piece that is not printed stays; it is made anew, since it is
+// then kept in registers.
+pub fn add_size(tally: Tally, size: Size, at: usize, k: usize, ends: &mut [u32]) -> Tally
+    requires { ⌜ (SizeBelow size) × (k < 512) × (TallyBelow k tally) ⌝ }
+    ensures { λ r. ⌜ (r ≡ added at size tally) × (TallyBelow (k + 1) r) × (now (ends .exit) ≡ withEnd k r (now (ends .entry))) ⌝ }
+{
+    match tally {
+        Tally::Length(n) => match size {
+            Size::Bytes(m) => {
+                let end = n + m;
+                if k < ends.len() {
+                    ends[k] = (end % 4294967296) as u32;
+                }
+                Tally::Length(end)
+            }
+            Size::Stops(number) => Tally::Stops {
+                number: number,
+                place: at,
+            },
+        },
+        Tally::Stops { number, place } => Tally::Stops {
+            number: number,
+            place: place,
+        },
+    }
 }

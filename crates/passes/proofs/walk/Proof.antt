@@ -10,6 +10,8 @@ use Rattle.parsing.specs.Pieces.{pieceAt}
 use Rattle.parsing.specs.declared.Step.{Step}
 use Rattle.parsing.specs.declared.Step.the-variants.{Found}
 use Rattle.parsing.proofs.Progress.{advanced}
+use Rattle.elements.specs.declared.Size.{Size}
+use Rattle.tallies.specs.Tallies.{added}
 use Rattle.passes.specs.Passes.{Walkable, Passed, StopsAt}
 use Rattle.passes.proofs.Reached.{reached-full, reached-refused, reached-end}
 use Rattle.passes.proofs.Laying.{Laying, piece-ready, laying-as, laying-start, laying-read, laying-printed}
@@ -92,10 +94,16 @@ found : (c : tie.After-known-told Inv-loop μ-loop) → let l = around c in
     pieceAt (entry l .args .fmt .now) (entry l .args .kinds .now) (l .loop .c) ≡ Found (c .before .step .given .0 .0) (c .before .step .given .0 .1 .0)
 found c = sym (c .before .before .before .next-piece .ensures) ∙ c .before .step .given .1
 
-add-piece-requires : tie.Need-add-piece-requires Inv-loop μ-loop
-add-piece-requires c κs =
-    let k = c .before .before .before in
-    (piece-ready (passed (around k) (c .before .before .if3 .taken)) (around k .loop .c) (inside k) (found k), room k, around k .loop .inv .below)
+put-behind-requires : tie.Need-put-behind-requires Inv-loop μ-loop
+put-behind-requires c κs =
+    let k = c .before .before in
+    piece-ready (passed (around k) (c .before .if3 .taken)) (around k .loop .c) (inside k) (found k)
+
+add-size-requires : tie.Need-add-size-requires Inv-loop μ-loop
+add-size-requires c κs =
+    let put = c .before .before .before in
+    let k = put .before .before .before in
+    (put .put-behind .ensures .0 .1, room k, around k .loop .inv .below)
 
 argument-of-requires : tie.Need-argument-of-requires Inv-loop μ-loop
 argument-of-requires c κs = search needs
@@ -120,9 +128,11 @@ loop-again c =
     let m = c .larger .ensures ∙ ap (max (l .largest)) (c .before .argument-of .ensures) in
     ⊎-elim
     (λ w.
-    let a = w .3 .ensures in
-    laying-as (w .10) m (w .8) (w .9)
-    (laying-printed (l .inv) (inside k) (room k) (found k) (w .0 .taken) (a .0 .0) (a .0 .1) (a .1 .0) (a .1 .1) (search needs) (search needs)))
+    let put = w .2 .ensures in
+    let add = w .6 .ensures in
+    let counts = add .0 ∙ ap (λ (x : Size). added (l .c .at) x (l .tally)) (put .0 .0) in
+    laying-as (w .11) m (w .9) (w .10)
+    (laying-printed (l .inv) (inside k) (room k) (found k) (w .0 .taken) counts (add .1) (put .1) (add .2) (search needs) (search needs)))
     (λ w. laying-as (w .3) m (w .1) (w .2) (laying-read (l .inv) (inside k) (room k) (found k) (w .0 .left)))
     (c .before .before .if3 .came)
 
@@ -156,7 +166,8 @@ walk-spec =
     same-length-3
     same-length-4
     returns-2
-    add-piece-requires
+    put-behind-requires
+    add-size-requires
     argument-of-requires
     larger-requires
     add-k

@@ -4,26 +4,13 @@ use mathlib.Core.Path.{_≡_, refl, sym, ap, subst, _∙_}
 use native.Mathlib.Omega.{arith}
 use lib.Seq.{set-out}
 use Rattle.elements.specs.Sizes.{SizeBelow}
-use Rattle.tallies.specs.Tallies.{TallyBelow, addSize, added, withEnd}
-use Rattle.tallies.specs.declared.Tally.{Tally}
+use Rattle.tallies.specs.Tallies.{TallyBelow, addSize, added}
 use borrow.Author.Needs.{needs}
 use Rattle.tallies.proofs.add_size.Statement.{statement}
 use Rattle.tallies.proofs.add_size.Tie as tie
 
 enum-known-tally : tie.Need-enum-known-tally
 enum-known-tally c = search needs
-
-enum-told : tie.Need-enum-told
-enum-told c = search needs
-
-returns : tie.Need-returns
-returns c =
-    let a = c .before .before .args in
-    let g = sym (c .enum-told .given .1) in (
-      subst (λ (t : Tally). t ≡ added (a .at) (a .size) t) g refl,
-      subst (TallyBelow (a .k + 1)) g tt,
-      subst (λ (t : Tally). a .ends .now ≡ withEnd (a .k) t (a .ends .now)) g refl,
-    )
 
 enum-known-size : tie.Need-enum-known-size
 enum-known-size c = search needs
@@ -55,18 +42,21 @@ slice-write-ends c = search needs
 enum-known-size-2 : tie.Need-enum-known-size-2
 enum-known-size-2 c = search needs
 
+enum-known-tally-2 : tie.Need-enum-known-tally-2
+enum-known-tally-2 c = search needs
+
 same-length : tie.Need-same-length
 same-length c = search needs
 
-returns-2 : tie.Need-returns-2
-returns-2 c =
+returns : tie.Need-returns
+returns c =
     let first = c .before .before .before .before .before .before .before in
     let a = first .args in
     let g = c .before .before .before .before .before .tally .given .1 in
     (sym (ap (added (a .at) (a .size)) g ∙ ap (addSize _ (a .at)) (c .before .before .size .given .1)), sum-below (c .before) .1, refl)
 
-returns-3 : tie.Need-returns-3
-returns-3 c =
+returns-2 : tie.Need-returns-2
+returns-2 c =
     let first = c .before .before .before .before .before .before .before in
     let a = first .args in
     let g = c .before .before .before .before .before .tally .given .1 in (
@@ -75,26 +65,32 @@ returns-3 c =
       sym (set-out (a .ends .now) (a .k) _ (omega arith)),
     )
 
-returns-4 : tie.Need-returns-4
-returns-4 c =
+returns-3 : tie.Need-returns-3
+returns-3 c =
     let a = c .before .before .before .before .before .before .args in
     let g = c .before .before .before .before .tally .given .1 in
     (sym (ap (added (a .at) (a .size)) g ∙ ap (addSize _ (a .at)) (c .before .size2 .given .1)), tt, refl)
+
+-- a piece before was not printed
+returns-4 : tie.Need-returns-4
+returns-4 c =
+    let a = c .before .before .before .args in
+    (sym (ap (added (a .at) (a .size)) (c .before .tally2 .given .1)), tt, refl)
 
 pub add-size-spec : {M : Type 1} → statement M
 add-size-spec =
     tie.close
     (tie.spec
     enum-known-tally
-    enum-told
-    returns
     enum-known-size
     add-end
     cast-ends
     mul-ends
     slice-write-ends
     enum-known-size-2
+    enum-known-tally-2
     same-length
+    returns
     returns-2
     returns-3
     returns-4)
