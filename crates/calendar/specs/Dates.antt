@@ -49,7 +49,7 @@ unfoldable pub countOff : (ℕ → ℕ) → ℕ → ℕ → ℕ → ℕ × ℕ
 countOff len zero first n = (first, n)
 countOff len (suc f) first n = choose (ltb n (len first)) (λ _. (first, n)) (λ _. countOff len f (first + 1) (n - len first))
 
--- The year of a day, and the days of the year before it. No year is shorter than a day, so n years are never over in n days.
+-- The year of a day, and the days of the year before it. No year is shorter than a day, so n steps suffice.
 unfoldable pub yearDay : ℕ → ℕ × ℕ
 yearDay n = countOff yearLength n 0 n
 

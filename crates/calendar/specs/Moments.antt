@@ -35,7 +35,7 @@ weekdayOf n = (thursday + (n + 7 * epochDay - epochDay)) % 7
 unfoldable pub ordinalOf : ℕ → ℕ
 ordinalOf n = n - dayNumber (record { year = dateOf n .year; month = 1; day = 1 }) + 1
 
--- The moment in so many nanoseconds of the second s of day n.
+-- The moment so many nanoseconds behind the beginning of second s of day n.
 abbrev pub onDay : ℕ → ℕ → ℕ → Moment
 onDay n s nanos =
     record {

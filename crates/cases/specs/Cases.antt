@@ -84,8 +84,8 @@ ours =
     ∷ record { format = "%%"; kind = 3; value = 5; area = ""; text = "%" }
     ∷ []
 
--- Dates (02, E1): each letter of a pattern is seen in one of these, alone or in a composed one; both ends of the halves of a day; a leap day
--- in a full hundred; the day behind 28 February of a full hundred that is no leap year; the largest timestamp; signs.
+-- Dates (02, E1): each letter of a pattern is seen in one of these, alone or in a composed one; both sides of noon, and
+-- midnight on the 12-hour clock; a leap day in a full hundred; the day behind 28 February of a full hundred that is no leap year; the largest timestamp; signs.
 abbrev seconds : ℕ → ℕ
 seconds n = n * 1000000000
 

@@ -40,8 +40,8 @@ short name = take 3 name
 unfoldable pub signText : ℤ → List ℕ
 signText z = choose (isNegative z) (λ _. ascii "-") (λ _. [])
 
--- What the letters print of a timestamp z, whose moment is m, each kind in the order of Java's tables (of a negative z that is not a whole second nothing
--- is asked: it is refused). Numbers, with their places:
+-- What the letters print of a timestamp z, whose moment is m, each kind in the order of Java's tables (of a negative z that is not a whole second, which
+-- is refused, no printed text depends on it). Numbers, with their places:
 abbrev pub numbers : ℤ → Moment → List (Char × (ℕ × ℕ))
 numbers z m =
     ("H", (2, m .hour)) ∷ ("I", (2, clock12 (m .hour))) ∷ ("k", (1, m .hour)) ∷ ("l", (1, clock12 (m .hour))) ∷ ("M", (2, m .minute)) ∷

@@ -1,5 +1,5 @@
 // The components of a date and their parts: as `format_time_component` prints them.
-// Ported from format_string.rs of datafusion-spark 55.2.0 (Apache-2.0; see NOTICE): format_time_component.
+// Ported from format_string.rs of datafusion-spark 55.2.0 (Apache-2.0; see NOTICE): what format_time_component prints for each component.
 use calendar::Moment;
 use letters::TimeFormat;
 ghost use mathlib.Core.Path.{_≡_};
@@ -23,7 +23,7 @@ pub enum TimePart {
     Byte(u8),
 }
 
-// Where a component's letters stand in `patterns`.
+// Where a component's letters stand in the list of all patterns, which `dates` has.
 pub fn pattern_of(component: TimeFormat) -> Span
     ensures { λ r. ⌜ (within patterns r ≡ patternOf component) × (r .start + r .len ≤ length patterns) ⌝ }
 {
@@ -61,7 +61,7 @@ pub fn pattern_of(component: TimeFormat) -> Span
     }
 }
 
-// Where a month's name stands in `words`.
+// Where a month's name stands in the list of all words, which `dates` has.
 fn month_name(month: u64) -> Span
     ensures { λ r. ⌜ (within words r ≡ nameOf monthNames month) × Inside words r ⌝ }
 {
@@ -82,7 +82,7 @@ fn month_name(month: u64) -> Span
     }
 }
 
-// Where a weekday's name stands in `words`.
+// Where a weekday's name stands in that list.
 fn weekday_name(weekday: u64) -> Span
     ensures { λ r. ⌜ (within words r ≡ nameOf weekdayNames weekday) × Inside words r ⌝ }
 {
@@ -108,7 +108,7 @@ fn clock12(hour: u64) -> u64
     hour % 12
 }
 
-// Where a morning's word stands in `words`, and behind it an afternoon's: the one for an hour.
+// The word for an hour: the morning's, which begins at a place in that list, or the afternoon's behind it.
 fn half(hour: u64, start: usize) -> Span
     requires { ⌜ start ≤ 128 ⌝ }
     ensures { λ r. ⌜ (within words r ≡ halfFrom start hour) × Inside words r ⌝ }

@@ -57,7 +57,7 @@ lettersOf C.DecimalFloat = ascii "eEfgG"
 lettersOf C.HexFloat = ascii "aA"
 lettersOf (C.Time t) = ascii "tT"
 
--- The letter behind t or T of each component, "with `h` read as `b`"; behind other letters none stands.
+-- The letter behind t or T of each component, "with `h` read as `b`". Behind other letters an element has none, by its length.
 abbrev pub componentLetters : TimeFormat → List ℕ
 componentLetters T.HUpper = ascii "H"
 componentLetters T.IUpper = ascii "I"

@@ -1,4 +1,5 @@
 // Integers in two's complement: sign, magnitude, the bits of a width.
+// Ported in part from format_string.rs of datafusion-spark 55.2.0 (Apache-2.0; see NOTICE): the sign and magnitude of format_signed.
 ghost use mathlib.Core.Path.{_≡_};
 ghost use Prim.Native.Nat.{_%_, _^_};
 ghost use lib.IntN.{natAbs};

@@ -5,7 +5,7 @@ ghost use mathlib.Core.Path.{_≡_};
 ghost use Prim.Native.Nat.{_^_, _≤_, _<_};
 ghost use lib.ListN.{length};
 ghost use Rattle.writing.specs.Writers.{Wrote};
-ghost use Rattle.numerals.specs.Digits.{digitsIn, places, letterOf, lettersOf, decimal};
+ghost use Rattle.numerals.specs.Digits.{digitsIn, places, letterOf, lettersOf};
 ghost use Rattle.numerals.specs.Bases.{baseOf};
 
 // The base in which a number is written.

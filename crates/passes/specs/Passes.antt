@@ -1,4 +1,5 @@
--- What one pass over the pieces answers and leaves: for the contract of `walk`. Nothing in the promises of checking, measuring and printing speaks of these.
+-- What one pass over the pieces answers and leaves, and what checking makes of it: for the contracts of this crate and of the steps of `printing`. Nothing in
+-- the promises of checking, measuring and printing speaks of these.
 use Prim.Native.Nat.{ℕ, _≤_}
 use mathlib.Core.Path.{_≡_}
 use mathlib.Core.Bool.{Bool, true, false}

@@ -201,3 +201,15 @@ pub fn broken(t: Tally) -> Tally
     let at = t.at;
     counted(t, at, false)
 }
+
+// What came of two lists together.
+pub fn added(a: Tally, b: Tally) -> Tally
+    requires { ⌜ (a .passed + a .failed ≤ 1048576) × (b .passed + b .failed ≤ 1048576) ⌝ }
+    ensures { λ r. ⌜ (r .passed ≡ a .passed + b .passed) × (r .failed ≡ a .failed + b .failed) ⌝ }
+{
+    Tally {
+        at: 0,
+        passed: a.passed + b.passed,
+        failed: a.failed + b.failed,
+    }
+}

@@ -1,5 +1,6 @@
 // One piece more of a pass: its text behind those before it as far as there is room, its end, and the length of all.
-// Ported from format_string.rs of datafusion-spark 55.2.0 (Apache-2.0; see NOTICE): the body of the loop of Formatter::format.
+// Ported from format_string.rs of datafusion-spark 55.2.0 (Apache-2.0; see NOTICE): how the loop of Formatter::format puts a piece behind those
+// before it.
 use elements::Size;
 use parsing::Piece;
 ghost use mathlib.Core.Path.{_≡_};

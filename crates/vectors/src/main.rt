@@ -183,18 +183,6 @@ fn run_file(file: &[u8], name: &[u8], named: usize) -> Tally
     t
 }
 
-// What came of two lists together.
-fn added(a: Tally, b: Tally) -> Tally
-    requires { ⌜ (a .passed + a .failed ≤ 1048576) × (b .passed + b .failed ≤ 1048576) ⌝ }
-    ensures { λ r. ⌜ r .passed + r .failed ≡ a .passed + a .failed + (b .passed + b .failed) ⌝ }
-{
-    Tally {
-        at: 0,
-        passed: a.passed + b.passed,
-        failed: a.failed + b.failed,
-    }
-}
-
 // The lists of the order's cases, and the original's answers.
 fn run_cases() -> Tally
     ensures { λ r. ⌜ r .passed + r .failed ≤ 786432 ⌝ }
@@ -202,7 +190,7 @@ fn run_cases() -> Tally
     let checked = run_file(b"check.vec", b"check", 20);
     let printed = run_file(b"print.vec", b"print", 20);
     let original = run_file(b"original.vec", b"original", 20);
-    added(added(checked, printed), original)
+    records::added(records::added(checked, printed), original)
 }
 
 // The lists of dates: the original's answers and Java's.
@@ -211,14 +199,14 @@ fn run_dates() -> Tally
 {
     let original = run_file(b"dates.vec", b"dates", 20);
     let java = run_file(b"java.vec", b"java", 20);
-    added(original, java)
+    records::added(original, java)
 }
 
 // The failures of the list of wrong records are wanted, and are neither named nor added up.
 fn main() {
     let cases = run_cases();
     let dates = run_dates();
-    let all = added(cases, dates);
+    let all = records::added(cases, dates);
     count_line(b"all", all.passed, all.failed);
     run_file(b"wrong.vec", b"wrong", 0);
 }
