@@ -1,4 +1,4 @@
-// The records of a list of vectors: one is read, and it is counted. crates/vectors/README.md has the layout.
+// The records of a list of vectors: one is read, it is counted, and the counts of lists are added up. crates/vectors/README.md has the layout.
 use statements::Stated;
 ghost use mathlib.Core.Path.{_≡_};
 ghost use Prim.Native.Nat.{_+_, _≤_, _<_};
@@ -205,7 +205,7 @@ pub fn broken(t: Tally) -> Tally
 // What came of two lists together.
 pub fn added(a: Tally, b: Tally) -> Tally
     requires { ⌜ (a .passed + a .failed ≤ 1048576) × (b .passed + b .failed ≤ 1048576) ⌝ }
-    ensures { λ r. ⌜ (r .passed ≡ a .passed + b .passed) × (r .failed ≡ a .failed + b .failed) ⌝ }
+    ensures { λ r. ⌜ (r .at ≡ 0) × (r .passed ≡ a .passed + b .passed) × (r .failed ≡ a .failed + b .failed) ⌝ }
 {
     Tally {
         at: 0,
