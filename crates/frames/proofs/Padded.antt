@@ -1,14 +1,16 @@
 -- A text brought to a width: its parts and its length. Assumes nothing.
-use mathlib.Core.Path.{_≡_, refl, ap, _∙_}
-use mathlib.Core.Bool.{true}
-use mathlib.Core.List.{List, [], _++_, append-nil}
+use mathlib.Core.Path.{_≡_, refl, sym, ap, _∙_}
+use mathlib.Core.Bool.{true, true≢false}
+use mathlib.Core.List.{List, _++_}
 use Prim.Native.Nat.{ℕ, _+_, max}
+use native.Mathlib.Nat.{zero-sub}
 use native.Mathlib.Omega.{arith}
-use lib.ListN.{length, length-append, drop-of-length-le}
+use lib.ListN.{length, length-append}
 use borrow.Author.Tests.{eqb-true}
-use Rattle.frames.specs.Frame.{opening, prefixText, closing, marks, headText, tailText, framed, spare, frameOf, padded}
+use Rattle.frames.specs.Frame.{closing, marks, headText, tailText, framed, spare, frameOf, padded}
 use Rattle.frames.specs.Bare.{isBare}
 use Rattle.frames.specs.declared.Mark.{Mark}
+use Rattle.frames.specs.declared.Mark.the-variants.{NoMark, Plus, Space, Minus, Brackets}
 use Rattle.frames.specs.declared.Prefix.{Prefix}
 use Rattle.frames.specs.declared.Adjust.{Adjust}
 use Rattle.frames.specs.declared.Adjust.the-variants.{Right, Left, Zeros}
@@ -32,13 +34,13 @@ module _ (w : ℕ) (m : Mark) (p : Prefix) (body : List ℕ) where
   padded-length Left = rw (padded-size w Left m p body _ refl, head-length, tail-length, length-append) (omega arith)
   padded-length Zeros = rw (padded-size w Zeros m p body _ refl, head-length, tail-length, length-append) (omega arith)
 
--- Where there is nothing to write around a text, it stays as it is: by the lengths, head and tail are empty.
-pub bare : (width : ℕ) (a : Adjust) (m : Mark) (p : Prefix) (t : List ℕ) → isBare width m p ≡ true → padded width a m p t ≡ t
-bare width a m p t e =
-    let f = frameOf width a m p (length t) in
-    let none : width + (length (opening m) + length (prefixText p) + length (closing m)) ≡ 0 = eqb-true _ 0 e in
-    let both = length-append (opening m) (prefixText p) in
-    let n : length (headText f) + length (tailText f) ≡ 0 = omega (arith, padded-size width a m p t f refl, padded-length width m p t a) in
-    let head : headText f ≡ [] = drop-of-length-le (headText f) {i = 0} (omega arith) in
-    let tail : tailText f ≡ [] = drop-of-length-le (tailText f) {i = 0} (omega arith) in
-    padded-is width a m p t f refl ∙ rw (head, tail, append-nil)
+-- Without width and mark it does not matter where padding would stand: the frame is the prefix alone.
+pub bare-frame : (width : ℕ) (a : Adjust) (m : Mark) (p : Prefix) (n : ℕ) → isBare width m ≡ true → frameOf width a m p n ≡ frameOf 0 Right NoMark p n
+unfolding frameOf spare
+bare-frame width Right NoMark p n e = simp (eqb-true width 0 e)
+bare-frame width Left NoMark p n e = simp (eqb-true width 0 e, zero-sub)
+bare-frame width Zeros NoMark p n e = simp (eqb-true width 0 e, zero-sub)
+bare-frame width a Plus p n e = absurd (true≢false (sym e))
+bare-frame width a Space p n e = absurd (true≢false (sym e))
+bare-frame width a Minus p n e = absurd (true≢false (sym e))
+bare-frame width a Brackets p n e = absurd (true≢false (sym e))

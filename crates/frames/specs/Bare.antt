@@ -1,12 +1,14 @@
 -- For speed alone: no contract of an entry speaks of this.
-use Prim.Native.Nat.{ℕ, _+_}
-use mathlib.Core.Bool.{Bool}
+use Prim.Native.Nat.{ℕ}
+use mathlib.Core.Bool.{Bool, false}
 use lib.Dec.{eqb}
-use lib.ListN.{length}
-use Rattle.frames.specs.Frame.{opening, closing, prefixText}
 use Rattle.frames.specs.declared.Mark.{Mark}
-use Rattle.frames.specs.declared.Prefix.{Prefix}
+use Rattle.frames.specs.declared.Mark.the-variants.{NoMark, Plus, Space, Minus, Brackets}
 
--- Whether there is nothing to write around a text: no width, mark or prefix.
-abbrev pub isBare : ℕ → Mark → Prefix → Bool
-isBare width m p = eqb (width + (length (opening m) + length (prefixText p) + length (closing m))) 0
+-- Whether there is neither a width nor a mark.
+abbrev pub isBare : ℕ → Mark → Bool
+isBare width NoMark = eqb width 0
+isBare width Plus = false
+isBare width Space = false
+isBare width Minus = false
+isBare width Brackets = false

@@ -92,11 +92,17 @@ fn all_marks_len(mark: Mark, prefix: Prefix) -> u64
     (opening.0 + prefixed.0 + closing.0) as u64
 }
 
-// Whether there is nothing to write around a text: no width, mark or prefix.
-pub fn is_bare(width: u32, mark: Mark, prefix: Prefix) -> bool
-    ensures { λ r. ⌜ r ≡ isBare width mark prefix ⌝ }
+// Whether there is neither a width nor a mark.
+pub fn is_bare(width: u32, mark: Mark) -> bool
+    ensures { λ r. ⌜ r ≡ isBare width mark ⌝ }
 {
-    (width as u64) + all_marks_len(mark, prefix) == 0
+    match mark {
+        Mark::NoMark => width == 0,
+        Mark::Plus => false,
+        Mark::Space => false,
+        Mark::Minus => false,
+        Mark::Brackets => false,
+    }
 }
 
 // What is left of the width beside mark, prefix and a text of n.

@@ -5,12 +5,15 @@ use flags::Flags;
 use frames::Adjust;
 use frames::Mark;
 use frames::Prefix;
+use layout::Framed;
 use numerals::Radix;
 use specifiers::Element;
 ghost use mathlib.Core.Path.{_≡_};
 ghost use Prim.Native.Nat.{_^_, _≤_, _<_};
 ghost use lib.ListN.{length};
 ghost use Rattle.writing.specs.Writers.{Wrote, Put};
+ghost use Rattle.frames.specs.Frame.{frameOf};
+ghost use Rattle.layout.specs.Around.{FramePut};
 ghost use Rattle.numbers.specs.Numbers.{fill, paddedNumber, signMark, integerMark, ifAlternate, hexPrefix, numeralText, floatMark, finiteText};
 ghost use Rattle.numbers.specs.Numerals.{digitsText, signedNumeral, unsignedNumeral, numeralOf};
 
@@ -113,19 +116,25 @@ fn write_numeral(out: &mut [u8], n: Numeral, len: usize) -> usize
     numerals::write_digits(out, n.value, radix, len, n.upper)
 }
 
-// A numeral without width, mark and prefix: there is no frame to write.
-fn put_bare_numeral(out: &mut [u8], n: Numeral) -> u64
-    ensures { λ r. ⌜ Put (now (out .entry)) (digitsText n) r (now (out .exit)) × (r < 2 ^ 42) ⌝ }
+// The frame of a number. Most numbers are printed without width and mark: that call has constants for them, so that it is compiled to the prefix alone.
+fn put_number_frame(
+    out: &mut [u8],
+    width: u32,
+    adjust: Adjust,
+    mark: Mark,
+    prefix: Prefix,
+    n: u64,
+) -> Framed
+    ensures { λ r. ⌜ FramePut (now (out .entry)) (frameOf width adjust mark prefix n) n r (now (out .exit)) ⌝ }
 {
-    let len = numeral_len(n);
-    if len <= out.len() {
-        write_numeral(out, n, len);
+    if frames::is_bare(width, mark) {
+        return layout::put_frame(out, 0, Adjust::Right, Mark::NoMark, prefix, n);
     }
-    len as u64
+    layout::put_frame(out, width, adjust, mark, prefix, n)
 }
 
-// A numeral in its frame.
-fn put_framed_numeral(out: &mut [u8], e: Element, n: Numeral) -> u64
+// A numeral, padded to the element's width.
+fn put_numeral(out: &mut [u8], e: Element, n: Numeral) -> u64
     ensures { λ r. ⌜ Put (now (out .entry)) (paddedNumber e (n .mark) (n .prefix) (digitsText n)) r (now (out .exit)) × (r < 2 ^ 42) ⌝ }
 {
     let width = e.width;
@@ -133,7 +142,7 @@ fn put_framed_numeral(out: &mut [u8], e: Element, n: Numeral) -> u64
     let mark = n.mark;
     let prefix = n.prefix;
     let len = numeral_len(n);
-    let framed = layout::put_frame(
+    let framed = put_number_frame(
         out,
         params::width_of(width),
         fill_of(flags),
@@ -147,19 +156,6 @@ fn put_framed_numeral(out: &mut [u8], e: Element, n: Numeral) -> u64
         write_numeral(&mut out[at..], n, len);
     }
     total
-}
-
-// A numeral, padded to the element's width.
-fn put_numeral(out: &mut [u8], e: Element, n: Numeral) -> u64
-    ensures { λ r. ⌜ Put (now (out .entry)) (paddedNumber e (n .mark) (n .prefix) (digitsText n)) r (now (out .exit)) × (r < 2 ^ 42) ⌝ }
-{
-    let width = e.width;
-    let mark = n.mark;
-    let prefix = n.prefix;
-    if frames::is_bare(params::width_of(width), mark, prefix) {
-        return put_bare_numeral(out, n);
-    }
-    put_framed_numeral(out, e, n)
 }
 
 // %d
@@ -230,7 +226,7 @@ pub fn format_finite(out: &mut [u8], e: Element, bits: u64) -> u64
     let mark = float_mark(flags, parts.negative);
     let float = binary64::hex_float(bits, precision);
     let n = hexfloats::hex_float_len(float);
-    let framed = layout::put_frame(
+    let framed = put_number_frame(
         out,
         params::width_of(width),
         fill_of(flags),

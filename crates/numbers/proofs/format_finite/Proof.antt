@@ -14,7 +14,7 @@ use borrow.Author.Needs.{needs}
 use Rattle.numbers.proofs.format_finite.Statement.{statement}
 use Rattle.numbers.proofs.format_finite.Tie as tie
 
--- the places before put_frame
+-- the places before put_number_frame
 abbrev measured : tie.After-hex-prefix → tie.After-hex-float-len
 measured c = c .before .before .before .before
 
@@ -55,12 +55,12 @@ module _ (c : tie.After-hex-prefix) where
       let l = exponent-length false (h .exponent) (h .bias) exponent bias in
       omega (arith, measured c .hex-float-len .ensures false, hex-length false h)
 
-room : (c : tie.After-put-frame) → c .put-frame .result .fits ≡ true
-    → c .put-frame .result .at + measured (c .before) .hex-float-len .result ≤ length (start (c .before) .args .out .now)
-room c = framed-room _ _ _ _ _ (c .put-frame .ensures)
+room : (c : tie.After-put-number-frame) → c .put-number-frame .result .fits ≡ true
+    → c .put-number-frame .result .at + measured (c .before) .hex-float-len .result ≤ length (start (c .before) .args .out .now)
+room c = framed-room _ _ _ _ _ (c .put-number-frame .ensures)
 
-below : (c : tie.After-put-frame) → c .put-frame .result .added + measured (c .before) .hex-float-len .result < 2 ^ 42
-below c = omega (arith, c .put-frame .ensures .below, small (c .before))
+below : (c : tie.After-put-number-frame) → c .put-number-frame .result .added + measured (c .before) .hex-float-len .result < 2 ^ 42
+below c = omega (arith, c .put-number-frame .ensures .below, small (c .before))
 
 write-hex-float-requires : tie.Need-write-hex-float-requires
 write-hex-float-requires c κs =
@@ -74,7 +74,7 @@ returns c =
     let framed = tested .before .before .before .before in
     let p = framed .before in (
       rw (shown p) at
-          (framed-put _ _ _ _ (text p) _ (own p) (start p .args .out .now) _ _ (framed .put-frame .ensures) (tested .if1 .taken) _
+          (framed-put _ _ _ _ (text p) _ (own p) (start p .args .out .now) _ _ (framed .put-number-frame .ensures) (tested .if1 .taken) _
           (wrote .write-hex-float .ensures .1)),
       below framed,
     )
@@ -83,7 +83,7 @@ returns-2 : tie.Need-returns-2
 returns-2 c =
     let framed = c .before .before .before .before in
     let p = framed .before in (
-      rw (shown p) at (framed-not _ _ _ _ (text p) _ (own p) (start p .args .out .now) _ _ (framed .put-frame .ensures) (c .if1 .left)),
+      rw (shown p) at (framed-not _ _ _ _ (text p) _ (own p) (start p .args .out .now) _ _ (framed .put-number-frame .ensures) (c .if1 .left)),
       below framed,
     )
 

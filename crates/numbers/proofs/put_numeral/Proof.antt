@@ -1,70 +1,75 @@
 -- `numbers::put_numeral` meets its contract. Assumes nothing.
-use mathlib.Core.Path.{_≡_, sym, ap, _∙_}
-use mathlib.Core.Bool.{true}
-use mathlib.Core.List.{List}
-use Prim.Native.Nat.{ℕ}
+use Prim.Native.Nat.{_+_, _^_, _≤_, _<_}
 use lib.ListN.{length}
-use Rattle.writing.specs.Writers.{laidIfRoom, Put}
+use native.Mathlib.Omega.{arith}
+use mathlib.Core.Path.{_≡_}
+use mathlib.Core.Bool.{true}
 use Rattle.params.specs.Params.{widthOf}
-use Rattle.frames.specs.Bare.{isBare}
-use Rattle.frames.proofs.Padded.{bare}
-use Rattle.numbers.specs.Numbers.{fill, paddedNumber}
+use Rattle.frames.specs.Frame.{frameOf}
+use Rattle.layout.specs.Around.{FramePut}
+use Rattle.layout.proofs.Padded.{framed-room, framed-put, framed-not}
+use Rattle.numbers.specs.Numbers.{fill}
 use Rattle.numbers.specs.Numerals.{digitsText}
-use Rattle.specifiers.specs.declared.Element.{Element}
-use Rattle.numbers.specs.declared.Numeral.{Numeral}
 use borrow.Author.Needs.{needs}
 use Rattle.numbers.proofs.put_numeral.Statement.{statement}
 use Rattle.numbers.proofs.put_numeral.Tie as tie
 
--- the digits alone are the padded numeral
-alone : (d : List ℕ) (e : Element) (n : Numeral) (r : ℕ) (out : List ℕ) → isBare (widthOf (e .width)) (n .mark) (n .prefix) ≡ true
-    → Put d (digitsText n) r out → Put d (paddedNumber e (n .mark) (n .prefix) (digitsText n)) r out
-alone d e n r out b w =
-    let same = sym (bare (widthOf (e .width)) (fill (e .flags)) (n .mark) (n .prefix) (digitsText n) b) in
-    (w .0 ∙ ap length same, w .1 ∙ ap (laidIfRoom d) same)
+-- the places behind numeral_len and at the start, from the place behind put_number_frame
+abbrev counted : tie.After-put-number-frame → tie.After-numeral-len
+counted c = c .before .before .before .before
 
-width-of-requires : tie.Need-width-of-requires
-width-of-requires c κs = search needs
+abbrev start : tie.After-put-number-frame → tie.Start
+start c = counted c .before .before .before
 
-is-bare-requires : tie.Need-is-bare-requires
-is-bare-requires c κs = search needs
+module _ (c : tie.After-put-number-frame) where
+  put : let a = start c .args in
+      let n = counted c .numeral-len .result in
+      FramePut (a .out .now) (frameOf (widthOf (a .e .width)) (fill (a .e .flags)) (a .n .mark) (a .n .prefix) n) n (c .put-number-frame .result)
+      (c .put-number-frame .last .0)
+  put =
+      let filled = c .before in
+      simp (← filled .before .width-of .ensures, ← filled .fill-of .ensures) (c .put-number-frame .ensures)
 
-put-bare-numeral-requires : tie.Need-put-bare-numeral-requires
-put-bare-numeral-requires c κs = search needs
+  room : c .put-number-frame .result .fits ≡ true → c .put-number-frame .result .at + counted c .numeral-len .result ≤ length (start c .args .out .now)
+  room = framed-room _ _ _ _ _ put
 
-same-length : tie.Need-same-length
-same-length c = search needs
+  below : c .put-number-frame .result .added + counted c .numeral-len .result < 2 ^ 42
+  below = omega (arith, put .below, counted c .numeral-len .ensures .1)
 
 returns : tie.Need-returns
 returns c =
-    let put = c .before .before in
-    let tested = put .before .before in
-    let asked = tested .before in
-    let a = asked .before .before .before .args in
-    let b =
-    ap (λ (w : ℕ). isBare w (a .n .mark) (a .n .prefix)) (sym (asked .before .width-of .ensures)) ∙ sym (asked .is-bare .ensures)
-    ∙ tested .if1 .taken in
-    let w = put .put-bare-numeral .ensures in
-    (alone (a .out .now) (a .e) (a .n) _ _ b (w .0), w .1)
-
-put-framed-numeral-requires : tie.Need-put-framed-numeral-requires
-put-framed-numeral-requires c κs = search needs
-
-same-length-2 : tie.Need-same-length-2
-same-length-2 c = search needs
+    let wrote = c .before .before in
+    let tested = wrote .before .before in
+    let framed = tested .before .before .before .before in
+    let a = start framed .args in (
+      framed-put (widthOf (a .e .width)) (fill (a .e .flags)) (a .n .mark) (a .n .prefix) (digitsText (a .n)) _ (counted framed .numeral-len .ensures .0)
+          (a .out .now) _ _ (put framed) (tested .if1 .taken) _ (wrote .write-numeral .ensures .1),
+      below framed,
+    )
 
 returns-2 : tie.Need-returns-2
-returns-2 c = search needs
+returns-2 c =
+    let framed = c .before .before .before .before in
+    let a = start framed .args in (
+      framed-not (widthOf (a .e .width)) (fill (a .e .flags)) (a .n .mark) (a .n .prefix) (digitsText (a .n)) _ (counted framed .numeral-len .ensures .0)
+          (a .out .now) _ _ (put framed) (c .if1 .left),
+      below framed,
+    )
 
 pub put-numeral-spec : {M : Type 1} → statement M
 put-numeral-spec =
     tie.close
     (tie.spec
-    width-of-requires
-    is-bare-requires
-    put-bare-numeral-requires
-    same-length
+    (λ c κs. search needs)
+    (λ c κs. search needs)
+    (λ c κs. search needs)
+    (λ c κs. search needs)
+    (λ c. omega (arith, below (c .before .before .before)))
+    (λ c. omega (arith, room (c .before .before .before .before) (c .if1 .taken)))
+    (λ c. omega (arith, room (c .before .before .before .before) (c .if1 .taken)))
+    (λ c. search needs)
+    (λ c κs. let r = room (c .before .before .before .before .before) (c .before .if1 .taken) in search needs)
+    (λ c. search needs)
     returns
-    put-framed-numeral-requires
-    same-length-2
+    (λ c. search needs)
     returns-2)
