@@ -2,12 +2,12 @@
 use mathlib.Core.Path.{_≡_, refl, sym, ap, _∙_}
 use mathlib.Core.Bool.{true, true≢false}
 use mathlib.Core.List.{List, _++_}
-use Prim.Native.Nat.{ℕ, _+_, max}
+use Prim.Native.Nat.{ℕ, _+_}
 use native.Mathlib.Nat.{zero-sub}
 use native.Mathlib.Omega.{arith}
 use lib.ListN.{length, length-append}
 use borrow.Author.Tests.{eqb-true}
-use Rattle.frames.specs.Frame.{closing, marks, headText, tailText, framed, spare, frameOf, padded}
+use Rattle.frames.specs.Frame.{headText, tailText, framed, spare, frameOf, padded}
 use Rattle.frames.specs.Bare.{isBare}
 use Rattle.frames.specs.declared.Mark.{Mark}
 use Rattle.frames.specs.declared.Mark.the-variants.{NoMark, Plus, Space, Minus, Brackets}
@@ -15,7 +15,6 @@ use Rattle.frames.specs.declared.Prefix.{Prefix}
 use Rattle.frames.specs.declared.Adjust.{Adjust}
 use Rattle.frames.specs.declared.Adjust.the-variants.{Right, Left, Zeros}
 use Rattle.frames.specs.declared.Frame.{Frame}
-use Rattle.frames.proofs.Lengths.{head-length, tail-length}
 
 -- f is the frame of the text.
 module _ (w : ℕ) (a : Adjust) (m : Mark) (p : Prefix) (body : List ℕ) (f : Frame) (e : f ≡ frameOf w a m p (length body)) where
@@ -25,14 +24,6 @@ module _ (w : ℕ) (a : Adjust) (m : Mark) (p : Prefix) (body : List ℕ) (f : F
 
   pub padded-size : length (padded w a m p body) ≡ (length (headText f) + length (tailText f)) + length body
   padded-size = ap length padded-is ∙ simp length-append (omega arith)
-
--- What a frame brings a text of n bytes to: the width, or more where mark, prefix and text are longer.
-module _ (w : ℕ) (m : Mark) (p : Prefix) (body : List ℕ) where
-  pub padded-length : (a : Adjust) → length (padded w a m p body) ≡ max w (length (marks m p) + length body + length (closing m))
-  unfolding frameOf spare
-  padded-length Right = rw (padded-size w Right m p body _ refl, head-length, tail-length, length-append) (omega arith)
-  padded-length Left = rw (padded-size w Left m p body _ refl, head-length, tail-length, length-append) (omega arith)
-  padded-length Zeros = rw (padded-size w Zeros m p body _ refl, head-length, tail-length, length-append) (omega arith)
 
 -- Without width and mark it does not matter where padding would stand: the frame is the prefix alone.
 pub bare-frame : (width : ℕ) (a : Adjust) (m : Mark) (p : Prefix) (n : ℕ) → isBare width m ≡ true → frameOf width a m p n ≡ frameOf 0 Right NoMark p n
