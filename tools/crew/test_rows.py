@@ -16,9 +16,10 @@ from values import pack_row
 PAGE = mmap.PAGESIZE
 NEAR = 64  # bytes beside a slice that are compared
 NO_ACCESS, READ, READ_AND_WRITE = 0, 1, 3
-FORMATS = [b"", b"x", b"%d %s|", b"%,d%n%2$40s%1$x", b"%c", b"%1$600d", b"%%" * 200 + b"%d"]
-ROWS = [["int32=7", "text=north"], ["int32=-1", "text="], ["int32=1234567", "text=" + "w" * 300], ["int32=null", "text=\udcff"],
-        ["int32=65", "text=x"]]
+FORMATS = [b"", b"x", b"%d %s|", b"%,d%n%2$40s%1$x", b"%c", b"%1$600d", b"%%" * 200 + b"%d",
+           b"%3$tc|%<TB"]
+ROWS = [["int32=7", "text=north", "time=2026-11-15T07:05:09Z"], ["int32=-1", "text=", "time=-1"],
+        ["int32=1234567", "text=" + "w" * 300, "time=-1000000000"], ["int32=null", "text=\udcff", "time=1"], ["int32=65", "text=x", "time=0"]]
 protect = ctypes.CDLL(None, use_errno=True).mprotect
 protect.argtypes = [ctypes.c_void_p, ctypes.c_size_t, ctypes.c_int]
 
@@ -98,7 +99,7 @@ class Rows(unittest.TestCase):
         rng, calls = random.Random(1), 0
         packed = [pack_row(words) for words in ROWS]
         for form, at_end, count in itertools.product(FORMATS, (True, False), range(6)):
-            pieces = self.library.check(form, bytes([3, 7])).pieces
+            pieces = self.library.check(form, bytes([3, 7, 8])).pieces
             for _ in range(12):
                 rows = [rng.choice(packed) for _ in range(count)]
                 whole = len(self.expected(form, rows, 1 << 14, 0)[0])

@@ -24,14 +24,10 @@ fn conversions() -> impl Iterator<Item = String> {
     "tT".chars().flat_map(|letter| COMPONENTS.iter().map(move |&component| format!("{letter}{}", component as char)))
 }
 
-/// Those of a date, and two of them that tell the date.
-const OF_DATE: &[u8] = b"BbAaCYyjmdeDFc";
-const OF_DAY: &[u8] = b"cj";
-
-/// Formats of one value under all these components, with t and with T.
-fn joined(components: &[u8]) -> [String; 2] {
+/// Formats of one value under all components, with t and with T.
+fn joined() -> [String; 2] {
     ["t", "T"].map(|letter| {
-        let elements = components.iter().map(|&component| format!("%1${letter}{}", component as char));
+        let elements = COMPONENTS.iter().map(|&component| format!("%1${letter}{}", component as char));
         elements.collect::<Vec<_>>().join(MARK)
     })
 }
@@ -123,7 +119,7 @@ pub fn sample(give: &mut dyn FnMut(Case)) {
             give(one(&conversion, nanos));
         }
     }
-    let formats = joined(COMPONENTS);
+    let formats = joined();
     let moments = changes_of_century().into_iter().filter(|&nanos| !is_broken(nanos));
     for (nanos, format) in moments.zip(formats.iter().cycle()) {
         give(Case::new(format, &[Value::Time(nanos)]));
@@ -156,7 +152,7 @@ fn turns_century(Date { year, month, day }: Date) -> bool {
 
 /// Both ends of each minute of a day, each second of an hour.
 fn times_of_day(give: &mut dyn FnMut(Case)) {
-    let formats = joined(COMPONENTS);
+    let formats = joined();
     for (at, day) in [-3000 * DAY, 20_000 * DAY].into_iter().enumerate() {
         for minute in 1..=1440 {
             let end = day + 60 * SECOND * minute;
@@ -182,19 +178,16 @@ fn fractions(give: &mut dyn FnMut(Case)) {
     }
 }
 
-/// The first moment of every day with the components of a date, the last one with two; both with all components, under t and under T, where
-/// the month changes or a leap day begins. Elsewhere t and T take turns.
+/// All components on both sides of every change of day: under t and T where the month changes or a leap day begins, elsewhere under one of them, by
+/// turns.
 fn days(give: &mut dyn FnMut(Case)) {
-    let (all, of_date, of_day) = (joined(COMPONENTS), joined(OF_DATE), joined(OF_DAY));
+    let formats = joined();
     for day in FIRST_DAY + 1..=LAST_DAY {
         let Date { month, day: number, .. } = date(day);
         let turns = number == 1 || (month, number) == (2, 29);
         let at = day.rem_euclid(2) as usize;
-        let (last, first) = if turns { (&all[..], &all[..]) } else { (&of_day[at..=at], &of_date[at..=at]) };
-        for format in last {
+        for format in if turns { &formats[..] } else { &formats[at..=at] } {
             give(Case::new(format, &[Value::Time(before(day * DAY))]));
-        }
-        for format in first {
             give(Case::new(format, &[Value::Time(day * DAY)]));
         }
     }
