@@ -2,7 +2,7 @@
 use mathlib.Core.Path.{_≡_, ap, _∙_}
 use mathlib.Core.Bool.{true}
 use mathlib.Core.List.{List, [], _∷_}
-use Prim.Native.Nat.{ℕ, zero, suc, _+_, _-_, _≤_, _<_}
+use Prim.Native.Nat.{ℕ, zero, suc, _+_, _≤_, _<_}
 use Prim.Native.Char.{code}
 use native.Mathlib.Decide.{decLt}
 use native.Mathlib.Omega.{arith}
@@ -29,14 +29,6 @@ text-rest (suc n) (b ∷ l) h =
 -- n bytes of the text from i on are passed
 pub text-past : (s : List ℕ) (i n : ℕ) → n ≤ textLength (drop i s) → textLength (drop i s) ≡ n + textLength (drop (i + n) s)
 text-past s i n h = text-rest n (drop i s) h ∙ ap (λ (l : List ℕ). n + textLength l) (drop-drop n i s)
-
--- from any place in a block without `%`, the text goes on behind the block
-pub block-past : (s : List ℕ) (at i : ℕ) → 32 ≤ textLength (drop at s) → at ≤ i → i ≤ at + 32
-    → i + textLength (drop i s) ≡ (at + 32) + textLength (drop (at + 32) s)
-block-past s at i h low high =
-    let e : at + (i - at) ≡ i = omega arith in
-    let past = text-past s at (i - at) (omega arith) ∙ ap (λ (k : ℕ). (i - at) + textLength (drop k s)) e in
-    omega (arith, past, text-past s at 32 h)
 
 -- the byte i of a block from a place on: a `%`, or another
 module _ (s : List ℕ) (at i : ℕ) (h : at + i < length s) where

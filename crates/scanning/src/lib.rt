@@ -1,6 +1,6 @@
 // Where a piece of fixed text ends: before the next `%`.
 ghost use mathlib.Core.Path.{_≡_};
-ghost use Prim.Native.Nat.{_+_, _≤_, min};
+ghost use Prim.Native.Nat.{_+_, _≤_};
 ghost use lib.Dec.{ltb};
 ghost use lib.ListN.{length, drop};
 ghost use Rattle.scanning.specs.Texts.{textLength};
@@ -36,36 +36,24 @@ fn is_in_block(text: &[u8], at: usize) -> bool
     found
 }
 
-// Where the block at a place begins; where no whole block is left, the last one, which ends with the text.
-fn block_at(i: usize, last: usize) -> usize
-    ensures { λ r. ⌜ r ≡ min i last ⌝ }
-{
-    if i < last {
-        return i;
-    }
-    last
-}
-
-// How many bytes stand before some place up to the next `%`. How far it lies is a matter of speed alone: behind all blocks without `%`.
+// How many bytes stand before some place up to the next `%`. How far it lies is a matter of speed alone: behind all blocks without `%`. The first
+// step is what is left beside whole blocks, so that the last block ends with the text.
 fn skip_blocks(text: &[u8]) -> usize
     ensures { λ r. ⌜ (r ≤ length (now (text .entry))) × (r + textLength (drop r (now (text .entry))) ≡ textLength (now (text .entry))) ⌝ }
 {
-    if text.len() < 32 {
-        return 0;
-    }
-    let last = text.len() - 32;
     let mut i = 0;
-    while i < text.len() {
-        let at = block_at(i, last);
-        if is_in_block(text, at) {
+    let mut step = text.len() % 32;
+    while 32 <= text.len() - i {
+        if is_in_block(text, i) {
             return i;
         }
-        i = at + 32;
+        i = i + step;
+        step = 32;
     }
     i
 }
 
-// How many bytes stand before the next `%`, or before the end: blocks first.
+// How many bytes stand before the next `%`, or before the end: whole blocks first.
 pub fn text_len(text: &[u8]) -> usize
     ensures { λ r. ⌜ r ≡ textLength (now (text .entry)) ⌝ }
 {
