@@ -116,7 +116,7 @@ fn write_numeral(out: &mut [u8], n: Numeral, len: usize) -> usize
     numerals::write_digits(out, n.value, radix, len, n.upper)
 }
 
-// The frame of a number. Without width and mark it is put by a call with constants for both, so that the compiler leaves the prefix alone.
+// The frame of a number. Without width and mark it is put by a call with constants for all but the prefix, which is what the compiler leaves of it.
 fn put_number_frame(
     out: &mut [u8],
     width: u32,

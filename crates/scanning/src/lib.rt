@@ -37,7 +37,7 @@ fn is_in_block(text: &[u8], at: usize) -> bool
 }
 
 // How many bytes stand before some place up to the next `%`. How far it lies is a matter of speed alone: behind all blocks without `%`. The first
-// step is what is left beside whole blocks, so that the last block ends with the text.
+// step is what is left beside whole blocks, perhaps nothing, so that the last block ends with the text.
 fn skip_blocks(text: &[u8]) -> usize
     ensures { λ r. ⌜ (r ≤ length (now (text .entry))) × (r + textLength (drop r (now (text .entry))) ≡ textLength (now (text .entry))) ⌝ }
 {
