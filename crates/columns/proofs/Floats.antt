@@ -55,11 +55,11 @@ finite-read e v =
     body : List ℕ
     body = hexFloatText u h
 
-    read : (a z i : ℕ) → readPiece (floatLetter u) (spaced a m (hexPrefix u) z body i 0) ≡ Float (scaledOf (negative v) h)
+    read : (a z i : ℕ) → readPiece (floatLetter u) (spaced a m (hexPrefix u) z body i) ≡ Float (scaledOf (negative v) h)
     read a z i =
         let k = float-mark (e .flags) (negative v) in
-        ap (λ (p : Prefix). readPiece (floatLetter u) (spaced a m p z body i 0)) (sym (same-prefix u))
-        ∙ float-piece a m u z u v (e .precision) i 0 (k .1) u
+        ap (λ (p : Prefix). readPiece (floatLetter u) (spaced a m p z body i)) (sym (same-prefix u))
+        ∙ float-piece a m u z u v (e .precision) i (k .1) u
         ∙ ap (λ (s : Bool). Float (scaledOf s h)) (k .0)
 
 -- The piece of a float by its category: a NaN and an infinity have no number to read.

@@ -63,7 +63,7 @@ signed-read : (e : Element) (z : ℤ)
     → readPiece (code "d") (paddedNumber e (integerMark (e .flags) (isNegative z)) NoPrefix (commas (e .flags .grouping) (decimal (natAbs z)))) ≡ Integer z
 signed-read e z =
     padded-read (λ (t : List ℕ). readPiece (code "d") t ≡ Integer z) m NoPrefix body
-    (λ a y i. decimal-piece a m y body i 0 n (kept-digits (e .flags .grouping) n) ∙ ap Integer value)
+    (λ a y i. decimal-piece a m y body i n (kept-digits (e .flags .grouping) n) ∙ ap Integer value)
     (widthOf (e .width)) (fill (e .flags))
   where
     n : ℕ
@@ -80,12 +80,12 @@ signed-read e z =
 
 -- %x, %X and %o: stated once over the letter c and its base.
 module _ (c base : ℕ) (two : 2 ≤ base) (most : base ≤ 16)
-    (reads : (a : ℕ) (p : Prefix) (z : ℕ) (body : List ℕ) (i j n : ℕ) → kept body ≡ lettersOf false (digits base n)
-    → readPiece c (spaced a NoMark p z body i j) ≡ Bits n) where
+    (reads : (a : ℕ) (p : Prefix) (z : ℕ) (body : List ℕ) (i n : ℕ) → kept body ≡ lettersOf false (digits base n)
+    → readPiece c (spaced a NoMark p z body i) ≡ Bits n) where
   unsigned-read : (e : Element) (p : Prefix) (u : Bool) (n m : ℕ) → n ≡ m → readPiece c (paddedNumber e NoMark p (numeral u base n)) ≡ Bits m
   unsigned-read e p u n m q =
       padded-read (λ (t : List ℕ). readPiece c t ≡ Bits m) NoMark p (numeral u base n)
-      (λ a z i. reads a p z (numeral u base n) i 0 n (kept-numeral u base n two most) ∙ ap Bits q)
+      (λ a z i. reads a p z (numeral u base n) i n (kept-numeral u base n two most) ∙ ap Bits q)
       (widthOf (e .width)) (fill (e .flags))
 
 -- The piece of an integer of w bits under the letter of its element.

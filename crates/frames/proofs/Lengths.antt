@@ -17,4 +17,4 @@ head-length f = rw (length-append, length-replicate, length-append, length-repli
 
 pub tail-length : (f : Frame) → length (tailText f) ≡ f .after + length (closing (f .mark))
 unfolding tailText spaces
-tail-length f = rw (length-append, length-replicate)
+tail-length f = rw (length-append, length-replicate) (omega arith)

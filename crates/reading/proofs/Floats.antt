@@ -179,13 +179,13 @@ magnitude-back s z h one k =
     ∙ simp (number-is z h k, lf)
 
 -- The piece of %a or %A of a finite value, whatever its mark, zeros and spaces.
-pub float-back : (a : ℕ) (m : Mark) (v : Bool) (z : ℕ) (u : Bool) (h : HexFloat) (i j : ℕ) → closing m ≡ [] → 1 ≤ h .digits → h .fraction < 16 ^ h .digits
-    → readFloat (kept (spaced a m (hexPrefix v) z (hexFloatText u h) i j)) ≡ some (scaledOf (isMinus m) h)
+pub float-back : (a : ℕ) (m : Mark) (v : Bool) (z : ℕ) (u : Bool) (h : HexFloat) (i : ℕ) → closing m ≡ [] → 1 ≤ h .digits → h .fraction < 16 ^ h .digits
+    → readFloat (kept (spaced a m (hexPrefix v) z (hexFloatText u h) i)) ≡ some (scaledOf (isMinus m) h)
 unfolding kept readFloat
-float-back a m v z u h i j c one k =
+float-back a m v z u h i c one k =
     let text = valueText h (exponentOf h) in
-    let all : kept (spaced a m (hexPrefix v) z (hexFloatText u h) i j) ≡ kept (marks m (hexPrefix v)) ++ (lettersOf false (replicate z 0) ++ text) =
-    kept-spaced a m (hexPrefix v) z (hexFloatText u h) text i j (kept-value u h) ∙ simp (c, append-nil) in
+    let all : kept (spaced a m (hexPrefix v) z (hexFloatText u h) i) ≡ kept (marks m (hexPrefix v)) ++ (lettersOf false (replicate z 0) ++ text) =
+    kept-spaced a m (hexPrefix v) z (hexFloatText u h) text i (kept-value u h) ∙ simp (c, append-nil) in
     ap readFloat all ∙ by-mark m v c
   where
     by-mark : (m : Mark) (v : Bool) → closing m ≡ []

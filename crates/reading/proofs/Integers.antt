@@ -1,4 +1,4 @@
--- The piece of an integer, read back: through zeros, commas, marks, prefixes, and spaces in every place where they may stand. Assumes nothing.
+-- The piece of an integer, read back: through zeros, commas, marks, prefixes and spaces, wherever these stand in its frame. Assumes nothing.
 use mathlib.Core.Path.{_≡_, refl, sym, ap, _∙_}
 use mathlib.Core.Bool.{Bool, true, false, _&&_}
 use mathlib.Core.List.{List, [], _∷_, _++_, append-assoc, append-nil}
@@ -21,19 +21,14 @@ use Rattle.frames.specs.declared.Mark.{Mark}
 use Rattle.frames.specs.declared.Mark.the-variants.{NoMark, Plus, Space, Minus, Brackets}
 use Rattle.frames.specs.declared.Prefix.{Prefix}
 use Rattle.frames.specs.declared.Prefix.the-variants.{NoPrefix, Octal, HexLower, HexUpper}
-use Rattle.frames.specs.declared.Frame.{Frame}
 use Rattle.reading.specs.Kept.{kept}
 use Rattle.reading.specs.Reading.{wholeNumber, withMinus, beforeClose, readDecimal, afterPrefix, orWhole, readBits}
 use Rattle.reading.proofs.Kept.{kept-append, kept-spaces, kept-letters, kept-grouped, zero-letters}
 use Rattle.reading.proofs.Digits.{letter-is-not, whole-read}
 
--- A value's text with spaces in front of it, before a closing bracket and behind it: every place where 01 and E2 let them stand.
-abbrev pub spaced : ℕ → Mark → Prefix → ℕ → List ℕ → ℕ → ℕ → List ℕ
-spaced a m p z body i j = spaces a ++ (marks m p ++ (replicate z (code "0") ++ (body ++ (spaces i ++ (closing m ++ spaces j)))))
-
-pub framed-spaced : (f : Frame) (body : List ℕ) → framed f body ≡ spaced (f .before) (f .mark) (f .prefix) (f .zeros) body (f .after) 0
-unfolding framed headText tailText spaces
-framed-spaced f body = simp (append-assoc, append-nil)
+-- A value's text in a frame with a spaces in front, z zeros, and i spaces of left adjustment.
+abbrev pub spaced : ℕ → Mark → Prefix → ℕ → List ℕ → ℕ → List ℕ
+spaced a m p z body i = framed (record { before = a; mark = m; prefix = p; zeros = z; after = i }) body
 
 kept-closing : (m : Mark) → kept (closing m) ≡ closing m
 unfolding kept
@@ -47,11 +42,13 @@ kept-closing Brackets = refl
 abbrev pub withZeros : ℕ → List ℕ → List ℕ
 withZeros z ds = replicate z 0 ++ ds
 
--- What counts of a piece whose text keeps the digits ds: the marks, the digits, the closing mark.
-pub kept-spaced : (a : ℕ) (m : Mark) (p : Prefix) (z : ℕ) (body rest : List ℕ) (i j : ℕ) → kept body ≡ rest
-    → kept (spaced a m p z body i j) ≡ kept (marks m p) ++ (lettersOf false (replicate z 0) ++ (rest ++ closing m))
-kept-spaced a m p z body rest i j e =
-    simp (kept-append, kept-spaces, e, zero-letters false z, kept-letters false (replicate z 0) (below-zeros 16 z (omega arith)), kept-closing, append-nil)
+-- What counts of a piece: the marks, the zeros, what counts of its text, the closing mark. Where in the frame spaces stand is not said, here or above.
+pub kept-spaced : (a : ℕ) (m : Mark) (p : Prefix) (z : ℕ) (body rest : List ℕ) (i : ℕ) → kept body ≡ rest
+    → kept (spaced a m p z body i) ≡ kept (marks m p) ++ (lettersOf false (replicate z 0) ++ (rest ++ closing m))
+unfolding framed headText tailText spaces
+kept-spaced a m p z body rest i e =
+    let zeros = kept-letters false (replicate z 0) (below-zeros 16 z (omega arith)) in
+    simp (kept-append, kept-spaces, e, zero-letters false z, zeros, kept-closing, append-assoc, append-nil)
 
 -- Digits in a base, with zeros in front: a whole number.
 pub record Digits (base n : ℕ) (ds : List ℕ) : Type 0 where
@@ -110,17 +107,17 @@ unfolding readDecimal
 brackets n ds d = simp (before-close (lettersOf false ds), whole-read 10 ds (lit≤ tt) (d .below) (d .some-digit), d .number)
 
 -- The piece of %d: whatever its mark, zeros, commas and spaces, the integer. Its text keeps the digits of the magnitude.
-pub decimal-back : (a : ℕ) (m : Mark) (z : ℕ) (body : List ℕ) (i j n : ℕ) → kept body ≡ lettersOf false (digits 10 n)
-    → readDecimal (kept (spaced a m NoPrefix z body i j)) ≡ some (signed (isMinus m) n)
+pub decimal-back : (a : ℕ) (m : Mark) (z : ℕ) (body : List ℕ) (i n : ℕ) → kept body ≡ lettersOf false (digits 10 n)
+    → readDecimal (kept (spaced a m NoPrefix z body i)) ≡ some (signed (isMinus m) n)
 unfolding kept readDecimal
-decimal-back a m z body i j n e =
+decimal-back a m z body i n e =
     let ds = digits 10 n in
     let close = closing m in
     let d : Digits 10 n (withZeros z ds) = zeros-first 10 n z ds (lit< tt) (digits-of 10 n (lit≤ tt)) in
     let k : lettersOf false (replicate z 0) ++ (lettersOf false ds ++ close) ≡ lettersOf false (withZeros z ds) ++ close =
     sym (append-assoc (lettersOf false (replicate z 0)) (lettersOf false ds) close)
     ∙ ap (λ (l : List ℕ). l ++ close) (sym (letters-append false (replicate z 0) ds)) in
-    ap readDecimal (kept-spaced a m NoPrefix z body (lettersOf false ds) i j e ∙ ap (λ (l : List ℕ). kept (marks m NoPrefix) ++ l) k)
+    ap readDecimal (kept-spaced a m NoPrefix z body (lettersOf false ds) i e ∙ ap (λ (l : List ℕ). kept (marks m NoPrefix) ++ l) k)
     ∙ by-mark m (withZeros z ds) d
   where
     by-mark : (m : Mark) (ds : List ℕ) → Digits 10 n ds
@@ -160,12 +157,12 @@ after-prefix HexLower base n ds h k d = simp (whole-read base ds k (d .below) (d
 after-prefix HexUpper base n ds h k d = simp (whole-read base ds k (d .below) (d .some-digit), d .number)
 
 -- The piece of %x or %o, whatever its prefix, zeros and spaces: the bits. Stated once over the base.
-pub bits-back : (a : ℕ) (p : Prefix) (z : ℕ) (body : List ℕ) (i j base n : ℕ) → 2 ≤ base → base ≤ 16 → kept body ≡ lettersOf false (digits base n)
-    → readBits base (kept (spaced a NoMark p z body i j)) ≡ some n
-bits-back a p z body i j base n h k e =
+pub bits-back : (a : ℕ) (p : Prefix) (z : ℕ) (body : List ℕ) (i base n : ℕ) → 2 ≤ base → base ≤ 16 → kept body ≡ lettersOf false (digits base n)
+    → readBits base (kept (spaced a NoMark p z body i)) ≡ some n
+bits-back a p z body i base n h k e =
     let d : Digits base n (withZeros z (digits base n)) = zeros-first base n z (digits base n) (omega arith) (digits-of base n h) in
     ap (readBits base)
-    (kept-spaced a NoMark p z body (lettersOf false (digits base n)) i j e
+    (kept-spaced a NoMark p z body (lettersOf false (digits base n)) i e
     ∙ simp (append-nil, ← letters-append))
     ∙ after-prefix p base n (withZeros z (digits base n)) h k d
 
