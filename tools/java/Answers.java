@@ -1,5 +1,4 @@
 import java.io.IOException;
-import java.math.BigInteger;
 import java.nio.charset.StandardCharsets;
 import java.time.Instant;
 import java.time.ZoneId;
@@ -16,7 +15,7 @@ import java.util.Locale;
  *
  * A request is the format and its values, with a tab between them. An answer is '=' and the text, or '!' and the simple name of the exception.
  * Bytes of the format and of texts outside 0x20 to 0x7e, and the backslash, stand as \HH. A value is a letter and what it names:
- * b s i l and a decimal number (Byte, Short, Integer, Long), g and a decimal number (BigInteger), d and 16 hexadecimal digits (Double by its
+ * b s i l and a decimal number (Byte, Short, Integer, Long), d and 16 hexadecimal digits (Double by its
  * bits), z and t or f (Boolean), x and a text in UTF-8 (String), y and any bytes (String with one character for each byte, those from 0x80 on
  * as U+E080 to U+E0FF, which have no capitals), u and a decimal number (ZonedDateTime, nanoseconds since 1970 in the zone named UTC, whose name
  * %tZ and %tc print; that of ZoneOffset.UTC is Z), n (null).
@@ -103,7 +102,6 @@ public final class Answers {
             case 's' -> Short.valueOf(rest);
             case 'i' -> Integer.valueOf(rest);
             case 'l' -> Long.valueOf(rest);
-            case 'g' -> new BigInteger(rest);
             case 'd' -> Double.longBitsToDouble(Long.parseUnsignedLong(rest, 16));
             case 'z' -> rest.equals("t");
             case 'x' -> rest;

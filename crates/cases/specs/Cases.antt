@@ -34,13 +34,13 @@ pub record Case : Type 0 where
 abbrev minus : ℕ → ℕ
 minus n = 2 ^ 64 - n
 
--- A table is read as: format, kind byte, value, text area, the text printed.
+-- A table is read as: format, kind byte, value, text area, the text printed. That of `%-(8d` is 02's, E2: "`%-(8d` of -5 prints `(5)` and five spaces."
 abbrev pub cases : List Case
 cases =
     record { format = "%d"; kind = 3; value = 5; area = ""; text = "5" }
     ∷ record { format = "%05d"; kind = 3; value = minus 5; area = ""; text = "-0005" }
     ∷ record { format = "%,d"; kind = 3; value = 1234567; area = ""; text = "1,234,567" }
-    ∷ record { format = "%-(8d"; kind = 3; value = minus 5; area = ""; text = "(5     )" }
+    ∷ record { format = "%-(8d"; kind = 3; value = minus 5; area = ""; text = "(5)     " }
     ∷ record { format = "%(1d"; kind = 3; value = minus 5; area = ""; text = "(5)" }
     ∷ record { format = "%d"; kind = 4; value = 2 ^ 63; area = ""; text = "-9223372036854775808" }
     ∷ record { format = "%#06x"; kind = 1; value = minus 1; area = ""; text = "0x00ff" }
@@ -65,6 +65,8 @@ ours =
     ∷ record { format = "%#X"; kind = 1; value = minus 1; area = ""; text = "0XFF" }
     ∷ record { format = "%#o"; kind = 3; value = 8; area = ""; text = "010" }
     ∷ record { format = "%5d"; kind = 3; value = 5; area = ""; text = "    5" }
+    ∷ record { format = "%0-(8d"; kind = 3; value = minus 5; area = ""; text = "(5)     " }
+    ∷ record { format = "%-(2d"; kind = 3; value = minus 5; area = ""; text = "(5)" }
     ∷ record { format = "%A"; kind = 5; value = 0x3ff0_0000_0000_0000; area = ""; text = "0X1.0P0" }
     ∷ record { format = "% a"; kind = 5; value = 0x3ff0_0000_0000_0000; area = ""; text = " 0x1.0p0" }
     ∷ record { format = "%A"; kind = 5; value = 0x7ff8_0000_0000_0000; area = ""; text = "NAN" }

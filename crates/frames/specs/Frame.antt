@@ -1,4 +1,4 @@
--- What stands around the text of a value: spaces, mark, prefix and zeros in front of it, spaces and a closing mark behind it.
+-- What stands around the text of a value: spaces, mark, prefix and zeros in front of it, a closing mark and spaces behind it.
 use Prim.Native.Nat.{ℕ, _+_, _-_}
 use Prim.Native.Char.{code}
 use mathlib.Core.List.{List, [], _++_}
@@ -46,9 +46,9 @@ spaces n = replicate n (code " ")
 unfoldable pub headText : Frame → List ℕ
 headText f = spaces (f .before) ++ (marks (f .mark) (f .prefix) ++ replicate (f .zeros) (code "0"))
 
--- Behind it. 01: "With `-` the spaces stand before the closing `)`, as in 000."
+-- Behind it. 02, E2, in the place of 01's sentence on `-` and `)`: "spaces of left adjustment stand after the whole number."
 unfoldable pub tailText : Frame → List ℕ
-tailText f = spaces (f .after) ++ closing (f .mark)
+tailText f = closing (f .mark) ++ spaces (f .after)
 
 -- The text of a value in its frame.
 unfoldable pub framed : Frame → List ℕ → List ℕ

@@ -32,7 +32,7 @@ pub enum Adjust {
     Zeros,
 }
 
-// Spaces in front, mark, prefix, zeros; spaces behind the text.
+// Spaces in front, mark, prefix, zeros; spaces behind text and closing mark.
 pub struct Frame {
     pub before: u32,
     pub mark: Mark,

@@ -69,8 +69,8 @@ fn write_tail(out: &mut [u8], f: Frame) -> usize
 {
     let mark = f.mark;
     let after = f.after as usize;
-    let a = writing::write_fill(out, after, b' ');
-    a + write_short(&mut out[a..], frames::closing_text(mark))
+    let a = write_short(out, frames::closing_text(mark));
+    a + writing::write_fill(&mut out[a..], after, b' ')
 }
 
 // Writes a frame around the place of n bytes. Answers that place.

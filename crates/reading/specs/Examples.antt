@@ -78,7 +78,7 @@ rows =
     ∷ record { given = shownTaken (paramAt false (ascii "2147483647") 0); text = "2147483647 10" }
     ∷ record { given = shownTaken (paramAt false (ascii "2147483648") 0); text = "too large" }
     ∷ record { given = framed (frameOf 5 Zeros Minus NoPrefix 1) (decimal 5); text = "-0005" }
-    ∷ record { given = framed (frameOf 8 Left Brackets NoPrefix 1) (decimal 5); text = "(5     )" }
+    ∷ record { given = framed (frameOf 8 Left Brackets NoPrefix 1) (decimal 5); text = "(5)     " }
     ∷ record { given = framed (frameOf 1 Right Brackets NoPrefix 1) (decimal 5); text = "(5)" }
     ∷ record { given = framed (frameOf 6 Zeros NoMark HexLower 2) (numeral false 16 255); text = "0x00ff" }
     ∷ record { given = framed (frameOf 6 Right Plus NoPrefix 2) (decimal 42); text = "   +42" }

@@ -4,7 +4,6 @@
 //! |---|---|
 //! | flags, widths and precisions that Java refuses | the element without what does nothing here |
 //! | null | the same with the letter s |
-//! | `-` and `(` on a negative | `(`, the magnitude with width less 2, `)` |
 //! | width and precision beyond ASCII, capitals beyond ASCII | a text with one character for each byte, precision lowered to a character's start |
 //! | %a of zero | without precision |
 //! | %a of a subnormal, no precision or above 13 | precision 13 |
@@ -38,11 +37,6 @@ impl Bridge {
         match (element.small(), value) {
             (_, Value::Integer(_, None)) => {
                 plain(format!("%{}{}{}\tn", minus(element), cut(element.precision()), string_letter(element)))
-            }
-            (b'd', Value::Integer(_, Some(value))) if *value < 0 && element.has(b'-') && element.has(b'(') => {
-                let width = element.width().unwrap_or(0).saturating_sub(2);
-                let width = if width == 0 { String::new() } else { format!("-{width}") };
-                plain(format!("(%{}{width}d)\tg{}", kept(element, b","), value.unsigned_abs()))
             }
             (b'd', _) => plain(format!("%{}{}d\t{}", kept(element, b"+ ,("), padding(element), value.request())),
             (b'o' | b'x', _) => {

@@ -27,7 +27,6 @@ pub enum Class {
     Surrogate,
     TimeFraction,
     Bounds,
-    Bracket,
     Bytes,
     Capitals,
     ZeroPrecision,
@@ -47,7 +46,7 @@ pub enum Side {
     Texts,
 }
 
-pub const ALL: [Class; 28] = [
+pub const ALL: [Class; 27] = [
     Class::RepeatedFlag,
     Class::MinusAndZero,
     Class::NoWidth,
@@ -69,7 +68,6 @@ pub const ALL: [Class; 28] = [
     Class::Surrogate,
     Class::TimeFraction,
     Class::Bounds,
-    Class::Bracket,
     Class::Bytes,
     Class::Capitals,
     Class::ZeroPrecision,
@@ -102,7 +100,6 @@ impl Class {
             Class::Surrogate => "%c of a surrogate",
             Class::TimeFraction => "%t of a negative timestamp, not a whole second",
             Class::Bounds => "over 4,096 bytes, 512 pieces or 64 values",
-            Class::Bracket => "%d, `-` and `(`, negative, with room left",
             Class::Bytes => "width and precision beyond ASCII",
             Class::Capitals => "capitals beyond ASCII",
             Class::ZeroPrecision => "%a of zero, precision above 1",

@@ -123,13 +123,6 @@ fn text_classes(element: &Element, value: &Value, classes: &mut Vec<Class>) {
             let character = u32::try_from(*value).ok().and_then(char::from_u32).expect("a scalar value");
             string_classes(element, &character.to_string(), classes);
         }
-        Value::Integer(_, Some(value)) if element.small() == b'd' && *value < 0 => {
-            let digits = value.unsigned_abs().to_string().len();
-            let commas = if element.has(b',') { (digits - 1) / 3 } else { 0 };
-            if element.has(b'-') && element.has(b'(') && element.width() > Some(digits + commas + 2) {
-                classes.push(Class::Bracket);
-            }
-        }
         Value::Text(text) => string_classes(element, text, classes),
         Value::Float(value) if value.is_finite() => float_classes(element, *value, classes),
         Value::Time(nanos) if element.width() > Some(clock::text_len(element.component, *nanos)) => {

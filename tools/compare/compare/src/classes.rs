@@ -9,6 +9,7 @@ pub enum Class {
     ManyPieces,
     LetterNotPrinted,
     BracketWidthOne,
+    BracketByDigits,
     LargePrecision,
     LeadingZero,
     Carry,
@@ -17,7 +18,7 @@ pub enum Class {
     NoChrono,
 }
 
-pub const CLASSES: [(Class, &str); 13] = [
+pub const CLASSES: [(Class, &str); 14] = [
     (Class::LongFormat, "format over 4,096 bytes: 1 expected, not sent to the original"),
     (Class::NotUtf8, "format not UTF-8: 2 expected, cannot be sent to the original"),
     (Class::NullTimestamp, "kind byte 136: 14 expected, 3 in checking; the original has null timestamps"),
@@ -25,6 +26,7 @@ pub const CLASSES: [(Class, &str); 13] = [
     (Class::ManyPieces, "a 513th piece: 13 expected, the original has no bound"),
     (Class::LetterNotPrinted, "accepted letter that is not printed here: 15 expected, the original's text not used"),
     (Class::BracketWidthOne, "`(` with width 1 on a negative: compared with the original's text without width"),
+    (Class::BracketByDigits, "`-` and `(` on a negative, with room left: compared with the original's text without width, then spaces"),
     (Class::LargePrecision, "%a precision above 65,535: compared with this tool's own text"),
     (Class::LeadingZero, "%a fraction not zero that begins with digit 0: compared with this tool's own text"),
     (Class::Carry, "%a rounding into the leading 1: compared with this tool's own text"),

@@ -302,11 +302,36 @@ fn element_text(
         return float_text(spec, float, scalar, met).map(Ok);
     }
     let negative_decimal = spec.conversion_type == ConversionType::DecInt && value.integer().is_some_and(|i| i < 0);
-    if spec.negative_in_parentheses && negative_decimal && width == 1 {
-        met.push(Class::BracketWidthOne);
-        return original_text(&unpadded, scalar);
+    match spec.negative_in_parentheses && negative_decimal {
+        true if width == 1 => {
+            met.push(Class::BracketWidthOne);
+            original_text(&unpadded, scalar)
+        }
+        true if spec.left_adj => bracketed_text(spec, &unpadded, width as usize, scalar, met).map(Ok),
+        _ => original_text(spec, scalar),
     }
-    original_text(spec, scalar)
+}
+
+/// %d of a negative with `-` and `(`: E2 has the spaces behind the bracket, the original before it. That the two differ
+/// where the width leaves room, and agree elsewhere, is checked on every such number.
+fn bracketed_text(
+    spec: &ConversionSpecifier,
+    unpadded: &ConversionSpecifier,
+    width: usize,
+    scalar: &ScalarValue,
+    met: &mut Vec<Class>,
+) -> Result<PieceText, String> {
+    let original = original_text(spec, scalar)?.map_err(refused_number)?;
+    let PieceText::Text(number) = original_text(unpadded, scalar)?.map_err(refused_number)? else {
+        return Err("the original's text is not known".to_owned());
+    };
+    let has_room = number.len() < width;
+    met.extend(has_room.then_some(Class::BracketByDigits));
+    let own = PieceText::Text(format!("{number:<width$}"));
+    if has_room == (original == own) || original.length() != own.length() {
+        return Err(format!("room left does not tell the original's {original:?} from {own:?}"));
+    }
+    Ok(own)
 }
 
 /// The original's messages in printing that stand for a number of 01's table.
@@ -341,7 +366,7 @@ fn float_text(
             met.push(Class::LargePrecision);
             sent.precision = NumericParam::Literal(LARGEST_PRECISION_SENT);
         }
-        return original_text(&sent, scalar)?.map_err(refused_float);
+        return original_text(&sent, scalar)?.map_err(refused_number);
     }
     let shown = precision.map(|p| p.min(LARGEST_PRECISION_SHOWN));
     let own = hex_float::unmarked(float, shown);
@@ -355,7 +380,7 @@ fn float_text(
         met.push(Class::WidePiece);
         return Ok(PieceText::Length((own_text.len() + missing) as u64));
     }
-    let original = original_text(spec, scalar)?.map_err(refused_float)?;
+    let original = original_text(spec, scalar)?.map_err(refused_number)?;
     met.extend(own.class);
     let own_text = PieceText::Text(own_text);
     if own.class.is_some() != (original != own_text) {
@@ -364,8 +389,8 @@ fn float_text(
     Ok(own_text)
 }
 
-fn refused_float(number: u64) -> String {
-    format!("the original refuses a float as if it were {number}")
+fn refused_number(number: u64) -> String {
+    format!("the original refuses to print a number, with {number}")
 }
 
 #[cfg(test)]
@@ -381,6 +406,7 @@ mod tests {
     /// The original's answers in docs/DIFFERENCES.md that can be asked for.
     #[test]
     fn listed_differences() {
+        assert_eq!(original_answer("%-(8d", Value::Int32(Some(-5))), "(5     )");
         assert_eq!(original_answer("%a", Value::Float(1.03125)), "0x1.8p0");
         assert_eq!(original_answer("%.1a", Value::Float(1.96875)), "0x1.1p0");
         assert_eq!(original_answer("%d", Value::Int64(Some(i64::MIN))), "-9223372036854775808");
