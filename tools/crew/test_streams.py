@@ -46,7 +46,8 @@ class Streams(unittest.TestCase):
         self.each([f"{PACK} {words} > /dev/full" for words in ("%d int8=7", "--help")], (2, [f"pack.py: {full}"]))
 
     def started(self, words, env, **more):
-        """A command whose output is a pipe."""
+        """A command whose output is a pipe. It takes interrupts, also where these tests run in the background, where a shell has them ignored."""
+        more.setdefault("preexec_fn", lambda: signal.signal(signal.SIGINT, signal.SIG_DFL))
         process = subprocess.Popen([LINE, *words], stdout=subprocess.PIPE, stderr=subprocess.PIPE, env=env, **more)
         self.addCleanup(process.wait)
         self.addCleanup(process.stdout.close)
