@@ -17,7 +17,7 @@ struct known {
 };
 
 static const struct known known[] = {
-    /* The cases of the scope document. */
+    /* The cases of the scope document, the fourth as a later request has it. */
     { "%d", 4, 5, "", "5", 0, 0 },
     { "%05d", 4, -5, "", "-0005", 0, 0 },
     { "%,d", 4, 1234567, "", "1,234,567", 0, 0 },

@@ -26,7 +26,7 @@ use Rattle.reading.specs.Reading.{wholeNumber, withMinus, beforeClose, r
 use Rattle.reading.proofs.Kept.{kept-append, kept-spaces, kept-letters, kept-grouped, zero-letters}
 use Rattle.reading.proofs.Digits.{letter-is-not, whole-read}
 
--- A value's text in a frame with a spaces in front, z zeros, and i spaces of left adjustment.
+-- A value's text in a frame: `a` spaces in front of it, `z` zeros, `i` spaces of left adjustment.
 abbrev pub spaced : ℕ → Mark → Prefix → ℕ → List ℕ → ℕ → List ℕ
 spaced a m p z body i = framed (record { before = a; mark = m; prefix = p; zeros = z; after = i }) body
 
@@ -42,7 +42,7 @@ kept-closing Brackets = refl
 abbrev pub withZeros : ℕ → List ℕ → List ℕ
 withZeros z ds = replicate z 0 ++ ds
 
--- What counts of a piece: the marks, the zeros, what counts of its text, the closing mark. Where in the frame spaces stand is not said, here or above.
+-- What counts of a piece: the marks, the zeros, what counts of its text, the closing mark. No law here, or built on this one, says where spaces stand.
 pub kept-spaced : (a : ℕ) (m : Mark) (p : Prefix) (z : ℕ) (body rest : List ℕ) (i : ℕ) → kept body ≡ rest
     → kept (spaced a m p z body i) ≡ kept (marks m p) ++ (lettersOf false (replicate z 0) ++ (rest ++ closing m))
 unfolding framed headText tailText spaces

@@ -26,7 +26,7 @@ pub const CLASSES: [(Class, &str); 14] = [
     (Class::ManyPieces, "a 513th piece: 13 expected, the original has no bound"),
     (Class::LetterNotPrinted, "accepted letter that is not printed here: 15 expected, the original's text not used"),
     (Class::BracketWidthOne, "`(` with width 1 on a negative: compared with the original's text without width"),
-    (Class::BracketByDigits, "`-` and `(` on a negative, with room left: compared with the original's text without width, then spaces"),
+    (Class::BracketByDigits, "`-` and `(` on a negative, room left: the original's text without width, then spaces"),
     (Class::LargePrecision, "%a precision above 65,535: compared with this tool's own text"),
     (Class::LeadingZero, "%a fraction not zero that begins with digit 0: compared with this tool's own text"),
     (Class::Carry, "%a rounding into the leading 1: compared with this tool's own text"),

@@ -302,18 +302,19 @@ fn element_text(
         return float_text(spec, float, scalar, met).map(Ok);
     }
     let negative_decimal = spec.conversion_type == ConversionType::DecInt && value.integer().is_some_and(|i| i < 0);
-    match spec.negative_in_parentheses && negative_decimal {
-        true if width == 1 => {
-            met.push(Class::BracketWidthOne);
-            original_text(&unpadded, scalar)
-        }
-        true if spec.left_adj => bracketed_text(spec, &unpadded, width as usize, scalar, met).map(Ok),
-        _ => original_text(spec, scalar),
+    let in_brackets = spec.negative_in_parentheses && negative_decimal;
+    if in_brackets && width == 1 {
+        met.push(Class::BracketWidthOne);
+        return original_text(&unpadded, scalar);
     }
+    if in_brackets && spec.left_adj {
+        return bracketed_text(spec, &unpadded, width as usize, scalar, met).map(Ok);
+    }
+    original_text(spec, scalar)
 }
 
 /// %d of a negative with `-` and `(`: E2 has the spaces behind the bracket, the original before it. That the two differ
-/// where the width leaves room, and agree elsewhere, is checked on every such number.
+/// where the width leaves room, and agree elsewhere, is checked on each number that comes here.
 fn bracketed_text(
     spec: &ConversionSpecifier,
     unpadded: &ConversionSpecifier,
@@ -406,7 +407,7 @@ mod tests {
     /// The original's answers in docs/DIFFERENCES.md that can be asked for.
     #[test]
     fn listed_differences() {
-        assert_eq!(original_answer("%-(8d", Value::Int32(Some(-5))), "(5     )");
+        assert_eq!(original_answer("%-(4d", Value::Int32(Some(-5))), "(5 )");
         assert_eq!(original_answer("%a", Value::Float(1.03125)), "0x1.8p0");
         assert_eq!(original_answer("%.1a", Value::Float(1.96875)), "0x1.1p0");
         assert_eq!(original_answer("%d", Value::Int64(Some(i64::MIN))), "-9223372036854775808");

@@ -1,4 +1,4 @@
-//! The rows of 01's table of cases, and its cases run by a program.
+//! The rows of 01's table of cases, `%-(8d` by E2, and its cases run by a program.
 
 use crate::generate::{Case, Room};
 use crate::row::{Row, Value};
