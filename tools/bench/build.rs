@@ -1,5 +1,5 @@
-//! Compiles calls.c and links it with the library named by PANEL, by default `target/staticlib/libpanel.a` of the repository. Where {fmt} is
-//! installed, calls_fmt.cpp is compiled and linked too, and `has_fmt` is set.
+//! Compiles calls.c and links it with the library named by PANEL, by default `target/staticlib/libpanel.a` of the repository, as many bytes further
+//! behind as PAD says. Where {fmt} is installed, calls_fmt.cpp is compiled and linked too, and `has_fmt` is set.
 
 use std::path::{Path, PathBuf};
 use std::process::{Command, Stdio};
@@ -28,7 +28,9 @@ fn main() {
         println!("cargo::rerun-if-changed={}", file.display());
     }
     println!("cargo::rerun-if-env-changed=PANEL");
+    println!("cargo::rerun-if-env-changed=PAD");
     println!("cargo::rustc-link-arg={}", object.display());
+    println!("cargo::rustc-link-arg={}", padding(&folder).display());
     println!("cargo::rustc-link-arg={}", library.display());
     println!("cargo::rustc-check-cfg=cfg(has_fmt)");
     if has_fmt(&folder) {
@@ -43,6 +45,16 @@ fn main() {
         println!("cargo::rustc-link-arg=-lfmt");
         println!("cargo::rustc-link-arg=-lstdc++");
     }
+}
+
+/// An object of nothing but PAD bytes, by default none.
+fn padding(folder: &Path) -> PathBuf {
+    let (source, object) = (folder.join("padding.s"), folder.join("padding.o"));
+    let bytes = env::var("PAD").unwrap_or_else(|_| "0".to_owned());
+    fs::write(&source, format!(".text\n.skip {bytes}\n.section .note.GNU-stack\n")).expect("written");
+    let compiled = Command::new("gcc").arg("-c").arg(&source).arg("-o").arg(&object).status();
+    assert!(compiled.is_ok_and(|status| status.success()), "gcc failed on padding.s");
+    object
 }
 
 /// Whether g++ finds the headers and the library of {fmt}: it is given a file that has nothing else.

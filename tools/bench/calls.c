@@ -6,14 +6,27 @@
 
 #include "panel.h"
 
-uint64_t bench_print(const uint8_t *fmt, size_t fmt_len, const uint8_t *row, size_t row_len, uint8_t *out, size_t out_len,
-                     uint8_t *ends, size_t ends_len, uint64_t calls)
+/* Rows of row_len bytes each, one behind the other; next is where the one of the next call begins. */
+struct rows {
+    const uint8_t *bytes;
+    size_t bytes_len;
+    size_t row_len;
+    size_t next;
+};
+
+/* The calls take the rows in turn, from where the calls before left off. */
+uint64_t bench_print(const uint8_t *fmt, size_t fmt_len, struct rows *rows, uint8_t *out, size_t out_len, uint8_t *ends,
+                     size_t ends_len, uint64_t calls)
 {
     uint64_t sum = 0;
+    size_t at = rows->next;
     for (uint64_t i = 0; i < calls; i++) {
-        struct panel_printed p = panel_print(fmt, fmt_len, row, row_len, out, out_len, ends, ends_len);
+        struct panel_printed p = panel_print(fmt, fmt_len, rows->bytes + at, rows->row_len, out, out_len, ends, ends_len);
         sum += p.number + p.length + p.pieces + out[0] + ends[0];
+        at += rows->row_len;
+        at = at == rows->bytes_len ? 0 : at;
     }
+    rows->next = at;
     return sum;
 }
 

@@ -1,6 +1,7 @@
 //! Times this library, the original, snprintf, {fmt} and Java on the same rows, and prints tables in Markdown.
 //!
-//! Arguments: FOLDER (of Bench.class; files of callgrind go there), or `calls INDEX COUNT` to make calls on one row and nothing else.
+//! Arguments: FOLDER (of Bench.class; files of callgrind go there). Or `calls INDEX COUNT` to make calls on one row and nothing else; `times` for the
+//! times of this library alone, and `counts FOLDER` for its instructions, a row to a line.
 
 mod fmt;
 mod others;
@@ -29,6 +30,8 @@ fn main() -> ExitCode {
             let Some(row) = all_rows().into_iter().nth(index) else { return usage() };
             std::hint::black_box(Panel::new(&row).run(count));
         }
+        ["times"] => times_alone(),
+        ["counts", folder] => counts_alone(Path::new(folder)),
         [folder] => tables(Path::new(folder)),
         _ => return usage(),
     }
@@ -36,7 +39,7 @@ fn main() -> ExitCode {
 }
 
 fn usage() -> ExitCode {
-    eprintln!("arguments: FOLDER, or calls INDEX COUNT");
+    eprintln!("arguments: FOLDER, or calls INDEX COUNT, or times, or counts FOLDER");
     ExitCode::from(2)
 }
 
@@ -46,28 +49,72 @@ fn all_rows() -> Vec<Row> {
     rows::compared().into_iter().chain(rising).collect()
 }
 
+/// The rows of the first table, and those in turn.
+fn times_alone() {
+    for row in rows::compared() {
+        let mut panel = Panel::new(&row);
+        let least = timing::least(&mut [Box::new(|calls| panel.run(calls)) as Calls]);
+        println!("{}\t{}", row.name, least[0]);
+    }
+    for rows in rows::in_turn() {
+        println!("{}, {} values\t{}", rows[0].name, grouped(rows::VALUES), measure_in_turn(&rows)[1]);
+    }
+}
+
+fn counts_alone(folder: &Path) {
+    for (index, row) in rows::compared().iter().enumerate() {
+        println!("{}\t{}", row.name, count(others::instructions(folder, index, row.call)));
+    }
+}
+
 fn tables(folder: &Path) {
-    let compared = rows::compared();
-    let series = rows::series();
+    let (compared, series, in_turn) = (rows::compared(), rows::series(), rows::in_turn());
     let mut measured: Vec<Measured> = compared.iter().map(|row| measure(folder, row)).collect();
     let mut rising: Vec<Vec<f64>> = series.iter().map(measure_series).collect();
+    let mut turns: Vec<[f64; 2]> = in_turn.iter().map(|rows| measure_in_turn(rows)).collect();
     for _ in 1..ROUNDS {
         for (row, m) in compared.iter().zip(&mut measured) {
             m.improve(measure(folder, row));
         }
         for (series, least) in series.iter().zip(&mut rising) {
-            for (ns, again) in least.iter_mut().zip(measure_series(series)) {
-                *ns = ns.min(again);
-            }
+            improve(least, &measure_series(series));
+        }
+        for (rows, least) in in_turn.iter().zip(&mut turns) {
+            improve(least, &measure_in_turn(rows));
         }
     }
     println!("{}\n", machine(&measured));
     println!("Nanoseconds for a call; instructions for a call of this library.\n");
+    table_compared(folder, &compared, &measured);
+    println!();
+    notes(&compared);
+    println!("\nGrowth with size, this library alone.\n");
+    println!("| Size in | Size | Nanoseconds | Nanoseconds / size | Instructions | Instructions / size |");
+    println!("|---|---:|---:|---:|---:|---:|");
+    let mut index = compared.len();
+    for (series, least) in series.iter().zip(&rising) {
+        growth(folder, series, least, &mut index);
+    }
+    println!("\nOne value in every call, and other values of its kind in turn; this library alone.\n");
+    println!("| Row | One value | {} values | Longer by |", grouped(rows::VALUES));
+    println!("|---|---:|---:|---:|");
+    for (rows, [one, many]) in in_turn.iter().zip(turns) {
+        println!("| {} | {one:.1} | {many:.1} | {:.1} |", rows[0].name, many - one);
+    }
+}
+
+fn improve(least: &mut [f64], again: &[f64]) {
+    for (ns, again) in least.iter_mut().zip(again) {
+        *ns = ns.min(*again);
+    }
+}
+
+fn table_compared(folder: &Path, compared: &[Row], measured: &[Measured]) {
     println!(
         "| Row | This library | Original, parse and format | Original, format only | snprintf | {{fmt}} | {{fmt}} compiled | Java | Original / this | snprintf / this | {{fmt}} / this | Instructions |"
     );
     println!("|---|---:|---:|---:|---:|---:|---:|---:|---:|---:|---:|---:|");
-    for (index, (row, m)) in compared.iter().zip(&measured).enumerate() {
+    for (index, (row, m)) in compared.iter().zip(measured).enumerate() {
         let name = &row.name;
         let differs = row.in_c.as_ref().is_some_and(|c| !c.same);
         let starred = |ns: Option<f64>| time(ns) + if differs && ns.is_some() { " *" } else { "" };
@@ -85,15 +132,6 @@ fn tables(folder: &Path) {
             ratio(m.fmt, m.panel),
             count(others::instructions(folder, index, row.call)),
         );
-    }
-    println!();
-    notes(&compared);
-    println!("\nGrowth with size, this library alone.\n");
-    println!("| Size in | Size | Nanoseconds | Nanoseconds / size | Instructions | Instructions / size |");
-    println!("|---|---:|---:|---:|---:|---:|");
-    let mut index = compared.len();
-    for (series, least) in series.iter().zip(&rising) {
-        growth(folder, series, least, &mut index);
     }
 }
 
@@ -183,6 +221,13 @@ fn measure_series(series: &Series) -> Vec<f64> {
     let mut panels: Vec<Panel> = series.rows.iter().map(|(_, row)| Panel::new(row)).collect();
     let mut subjects: Vec<Calls> = panels.iter_mut().map(|panel| Box::new(|calls| panel.run(calls)) as Calls).collect();
     timing::least(&mut subjects)
+}
+
+/// The least nanoseconds of a call for the first of the rows, and for all of them in turn.
+fn measure_in_turn(rows: &[Row]) -> [f64; 2] {
+    let (mut one, mut all) = (Panel::new(&rows[0]), Panel::in_turn(rows));
+    let least = timing::least(&mut [Box::new(|calls| one.run(calls)) as Calls, Box::new(|calls| all.run(calls))]);
+    [least[0], least[1]]
 }
 
 fn growth(folder: &Path, series: &Series, least: &[f64], index: &mut usize) {

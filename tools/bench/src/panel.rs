@@ -4,12 +4,20 @@ use std::ffi::{CStr, CString, c_char, c_int};
 
 use crate::rows::{Call, InC, Row};
 
+/// `struct rows` of calls.c.
+#[repr(C)]
+struct Rows {
+    bytes: *const u8,
+    bytes_len: usize,
+    row_len: usize,
+    next: usize,
+}
+
 unsafe extern "C" {
     fn bench_print(
         fmt: *const u8,
         fmt_len: usize,
-        row: *const u8,
-        row_len: usize,
+        rows: *mut Rows,
         out: *mut u8,
         out_len: usize,
         ends: *mut u8,
@@ -36,44 +44,63 @@ unsafe extern "C" {
 pub const ROOM: usize = 131_072;
 const ENDS: usize = 512;
 
-/// This library on one row.
+/// This library on one row, or on several in turn.
 pub struct Panel {
     call: Call,
     format: Vec<u8>,
-    row: Vec<u8>,
+    /// The rows one behind the other.
+    bytes: Vec<u8>,
+    row_len: usize,
+    next: usize,
     out: Vec<u8>,
     ends: Vec<u8>,
 }
 
 impl Panel {
     pub fn new(row: &Row) -> Panel {
+        Panel::in_turn(std::slice::from_ref(row))
+    }
+
+    /// Rows under one format, of as many bytes each.
+    pub fn in_turn(rows: &[Row]) -> Panel {
+        let first = &rows[0];
+        let bytes: Vec<u8> = rows.iter().flat_map(|row| row.pack()).collect();
         Panel {
-            call: row.call,
-            format: row.format.clone().into_bytes(),
-            row: row.pack(),
+            call: first.call,
+            format: first.format.clone().into_bytes(),
+            row_len: bytes.len() / rows.len(),
+            bytes,
+            next: 0,
             out: vec![0; ROOM],
             ends: vec![0; 4 * ENDS],
         }
     }
 
     pub fn run(&mut self, calls: u64) -> u64 {
-        let (format, row) = (&self.format, &self.row);
+        let (format, row_len) = (&self.format, self.row_len);
         match self.call {
-            // Each pointer and length come from one vector that lives through the call.
-            Call::Print => unsafe {
-                bench_print(
-                    format.as_ptr(),
-                    format.len(),
-                    row.as_ptr(),
-                    row.len(),
-                    self.out.as_mut_ptr(),
-                    self.out.len(),
-                    self.ends.as_mut_ptr(),
-                    self.ends.len(),
-                    calls,
-                )
+            // Each pointer and length come from one vector that lives through the call; a row ends where the next one, or the vector's end, is.
+            Call::Print => {
+                let mut rows =
+                    Rows { bytes: self.bytes.as_ptr(), bytes_len: self.bytes.len(), row_len, next: self.next };
+                let sum = unsafe {
+                    bench_print(
+                        format.as_ptr(),
+                        format.len(),
+                        &mut rows,
+                        self.out.as_mut_ptr(),
+                        self.out.len(),
+                        self.ends.as_mut_ptr(),
+                        self.ends.len(),
+                        calls,
+                    )
+                };
+                self.next = rows.next;
+                sum
+            }
+            Call::Measure => unsafe {
+                bench_measure(format.as_ptr(), format.len(), self.bytes.as_ptr(), row_len, calls)
             },
-            Call::Measure => unsafe { bench_measure(format.as_ptr(), format.len(), row.as_ptr(), row.len(), calls) },
         }
     }
 

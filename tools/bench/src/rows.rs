@@ -281,6 +281,31 @@ pub fn series() -> Vec<Series> {
     ]
 }
 
+/// More than a processor remembers of the jumps of earlier calls.
+pub const VALUES: u64 = 65_536;
+
+/// Rows under one format whose digits differ from call to call, for this library alone. As long as those of the first table, but for `%a`, where one
+/// in 16 has fewer digits.
+pub fn in_turn() -> Vec<Vec<Row>> {
+    let rows = |format: &str, value: &dyn Fn(u64) -> Value| {
+        let row = |i| Row::alone(&format!("`{format}`"), Call::Print, format.to_owned(), vec![value(mixed(i))]);
+        (0..VALUES).map(row).collect()
+    };
+    vec![
+        rows("%d", &|bits| Value::Int32(1_000_000 + (bits % 9_000_000) as i32)),
+        rows("%x", &|bits| Value::Int32(0x10_0000 + (bits % 0xf0_0000) as i32)),
+        rows("%a", &|bits| Value::Float(f64::from_bits(2f64.to_bits() | bits >> 12))),
+    ]
+}
+
+/// The bits that splitmix64 makes of a number.
+fn mixed(i: u64) -> u64 {
+    let z = (i + 1).wrapping_mul(0x9e37_79b9_7f4a_7c15);
+    let z = (z ^ z >> 30).wrapping_mul(0xbf58_476d_1ce4_e5b9);
+    let z = (z ^ z >> 27).wrapping_mul(0x94d0_49bb_1331_11eb);
+    z ^ z >> 31
+}
+
 /// Text without `%` and braces.
 fn plain(length: usize) -> String {
     "gate position text ".chars().cycle().take(length).collect()
