@@ -15,19 +15,15 @@ pub enum Radix {
     Hexadecimal,
 }
 
-// The letter of a digit below 16: small, or capital where upper is set.
+// The letter of a digit below 16: small, or capital where upper is set. A sum, so that there is no branch: n / 10 is 1 from ten on and 0 below, and gap is
+// how many other characters stand between 9 and a, or 9 and A.
 pub fn digit_letter(digit: u64, upper: bool) -> u8
     requires { ⌜ digit < 16 ⌝ }
     ensures { λ r. ⌜ r ≡ letterOf upper digit ⌝ }
 {
     let n = digit as u8;
-    if n < 10 {
-        return b'0' + n;
-    }
-    if upper {
-        return b'A' + (n - 10);
-    }
-    b'a' + (n - 10)
+    let gap = 39 - 32 * (upper as u8);
+    b'0' + n + n / 10 * gap
 }
 
 // How many decimal digits a number of at most four has: one for 0.

@@ -1,4 +1,8 @@
--- `numerals::digit_letter` meets its contract. Assumes nothing.
+-- `numerals::digit_letter` meets its contract. In each case, small or capital, the gap is a number, so that all is linear in the digit and its tenth.
+-- Assumes nothing.
+use native.Mathlib.Decide.{decLt}
+use native.Mathlib.Omega.{arith}
+use borrow.Table.Steps.{cases}
 use borrow.Author.Tests.{lt-ltb, le-ltb}
 use Rattle.numerals.specs.Digits.{letterOf}
 use borrow.Author.Needs.{needs}
@@ -8,26 +12,33 @@ use Rattle.numerals.proofs.digit_letter.Tie as tie
 cast-n : tie.Need-cast-n
 cast-n c = search needs
 
+cast-gap : tie.Need-cast-gap
+cast-gap c = search needs
+
+mul-gap : tie.Need-mul-gap
+mul-gap c = cases (c .args .upper) (λ e. simp e (omega arith)) (λ e. simp e (omega arith))
+
+sub-gap : tie.Need-sub-gap
+sub-gap c = cases (c .args .upper) (λ e. simp e (omega arith)) (λ e. simp e (omega arith))
+
 add-result : tie.Need-add-result
 add-result c = search needs
 
-returns : tie.Need-returns
-unfolding letterOf
-returns c = simp (lt-ltb _ _ (c .if1 .taken))
+mul-result : tie.Need-mul-result
+mul-result c = cases (c .args .upper) (λ e. simp e (omega (arith, c .pre))) (λ e. simp e (omega (arith, c .pre)))
 
 add-result-2 : tie.Need-add-result-2
-add-result-2 c = search needs
+add-result-2 c = cases (c .args .upper) (λ e. simp e (omega (arith, c .pre))) (λ e. simp e (omega (arith, c .pre)))
 
-returns-2 : tie.Need-returns-2
+returns : tie.Need-returns
 unfolding letterOf
-returns-2 c = simp (le-ltb _ _ (c .before .if1 .left), c .if2 .taken)
-
-add-result-3 : tie.Need-add-result-3
-add-result-3 c = search needs
-
-returns-3 : tie.Need-returns-3
-unfolding letterOf
-returns-3 c = simp (le-ltb _ _ (c .before .if1 .left), c .if2 .left)
+returns c =
+    elim (decLt (c .args .digit) 10) [
+      | yes p ↦ cases (c .args .upper) (λ e. simp (e, lt-ltb _ _ p) (omega arith)) (λ e. simp (e, lt-ltb _ _ p) (omega arith))
+      | no n ↦
+          let h = le-ltb (c .args .digit) 10 (omega arith) in
+          cases (c .args .upper) (λ e. simp (e, h) (omega (arith, c .pre))) (λ e. simp (e, h) (omega (arith, c .pre)))
+    ]
 
 pub digit-letter-spec : {M : Type 1} → statement M
-digit-letter-spec = tie.close (tie.spec cast-n add-result returns add-result-2 returns-2 add-result-3 returns-3)
+digit-letter-spec = tie.close (tie.spec cast-n cast-gap mul-gap sub-gap add-result mul-result add-result-2 returns)
