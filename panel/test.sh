@@ -1,5 +1,5 @@
 #!/usr/bin/env bash
-# Builds the example and the guard test against the library, and runs both. Usage: panel/test.sh [LIBRARY]
+# Builds the example and the guard test against the library, and runs both; where valgrind is at hand, also counts.sh. Usage: panel/test.sh [LIBRARY]
 # LIBRARY is target/staticlib/libpanel.a of the repository if not given. Products go to target/panel.
 set -eu
 root=$(cd "$(dirname "$0")/.." && pwd)
@@ -39,8 +39,9 @@ if command -v valgrind > /dev/null; then
     valgrind --error-exitcode=1 -q $made/example > $made/example.valgrind.out
     cmp panel/example.out $made/example.valgrind.out
     echo "example: no error under valgrind"
+    panel/counts.sh "$lib"
 else
-    echo "example: valgrind not found, not run under it"
+    echo "example: valgrind not found, not run under it; instructions not counted"
 fi
 
 $made/guard

@@ -31,6 +31,8 @@ fn main() {
     println!("cargo::rerun-if-env-changed=PAD");
     println!("cargo::rustc-link-arg={}", object.display());
     println!("cargo::rustc-link-arg={}", padding(&folder).display());
+    // The linker leaves out what nothing names.
+    println!("cargo::rustc-link-arg=-Wl,--undefined=bench_padding");
     println!("cargo::rustc-link-arg={}", library.display());
     println!("cargo::rustc-check-cfg=cfg(has_fmt)");
     if has_fmt(&folder) {
@@ -47,11 +49,12 @@ fn main() {
     }
 }
 
-/// An object of nothing but PAD bytes, by default none.
+/// An object of nothing but PAD bytes, by default none, and one that bears the name.
 fn padding(folder: &Path) -> PathBuf {
     let (source, object) = (folder.join("padding.s"), folder.join("padding.o"));
     let bytes = env::var("PAD").unwrap_or_else(|_| "0".to_owned());
-    fs::write(&source, format!(".text\n.skip {bytes}\n.section .note.GNU-stack\n")).expect("written");
+    let text = format!(".globl bench_padding\n.text\nbench_padding: .skip {bytes} + 1\n.section .note.GNU-stack\n");
+    fs::write(&source, text).expect("written");
     let compiled = Command::new("gcc").arg("-c").arg(&source).arg("-o").arg(&object).status();
     assert!(compiled.is_ok_and(|status| status.success()), "gcc failed on padding.s");
     object

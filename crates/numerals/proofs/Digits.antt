@@ -14,10 +14,9 @@ use lib.Dec.{lit≤}
 use lib.Arith.{mod-mul, digits-div, digits-mod, digits-lt}
 use lib.Count.{leadingZeros, leading-top}
 use lib.Pow.{pow-add, pow-mono}
-use lib.ListN.{length, replicate, set, length-append}
+use lib.ListN.{length, replicate, length-append}
 use borrow.Author.Tests.{lt-ltb, le-ltb}
 use Rattle.writing.proofs.FromRight.{fromRight}
-use Rattle.writing.proofs.Backwards.{Written, written-turn}
 use Rattle.numerals.specs.Digits.{digitsIn, placesWithin, places, digits, numberFrom, numberOf, letterOf, lettersOf, numeral}
 
 -- Every digit is below the base.
@@ -66,28 +65,6 @@ unfolding lettersOf digitsIn fromRight
 digits-right u b zero n = refl
 digits-right u b (suc k) n =
     letters-append u (digitsIn b k (n / b)) (n % b ∷ []) ∙ ap (λ (l : List ℕ). l ++ (letterOf u (n % b) ∷ [])) (digits-right u b k (n / b))
-
--- The last two digits at once: those of the remainder by the square of the base.
-pub two-digits : (b v : ℕ) → 0 < b → (v % (b * b) % b ≡ v % b) × (v % (b * b) / b ≡ v / b % b) × (v / b / b ≡ v / (b * b))
-two-digits b v h =
-    let e : v % (b * b) ≡ v / b % b * b + v % b = mod-mul v h h in
-    let l : v % b < b = mod-lt v h in
-    (rw e (digits-mod (v / b % b) l), rw e (digits-div (v / b % b) l), div-div-eq-div-mul v b b)
-
--- Their letters stored: x is the last, and y the one before it.
-pub written-pair : (u : Bool) (b : ℕ) (d D out : List ℕ) (i v x y : ℕ) → 0 < b → 1 < i → i ≤ length d
-    → x ≡ letterOf u (v % (b * b) % b) → y ≡ letterOf u (v % (b * b) / b) → Written (digitByte u b) (digitNext b) d D out i v
-    → Written (digitByte u b) (digitNext b) d D (set (set out (i - 2 + 1) x) (i - 2) y) (i - 2) (v / (b * b))
-written-pair u b d D out i v x y z h k e f w =
-    let t = two-digits b v z in
-    let g : i - 2 + 1 ≡ i - 1 = omega arith in
-    let j : i - 2 ≡ i - 1 - 1 = omega arith in
-    let p = digitByte u b in
-    let q = digitNext b in
-    let one = written-turn p q d D out i v (v / b) x (omega arith) k (sym (e ∙ ap (letterOf u) (t .0))) refl w in
-    let two = written-turn p q d D (set out (i - 1) x) (i - 1) (v / b) (v / (b * b)) y
-    (omega arith) (omega arith) (sym (f ∙ ap (letterOf u) (t .1))) (t .2) one in
-    rw (g, j) two
 
 pub below-append : (b : ℕ) (xs ys : List ℕ) → Below b xs → Below b ys → Below b (xs ++ ys)
 below-append b [] ys p q = q

@@ -9,9 +9,6 @@ use borrow.Author.Needs.{needs}
 use Rattle.numerals.proofs.digit_letter.Statement.{statement}
 use Rattle.numerals.proofs.digit_letter.Tie as tie
 
-cast-n : tie.Need-cast-n
-cast-n c = search needs
-
 cast-gap : tie.Need-cast-gap
 cast-gap c = search needs
 
@@ -21,14 +18,20 @@ mul-gap c = cases (c .args .upper) (λ e. simp e (omega arith)) (λ e. simp e (o
 sub-gap : tie.Need-sub-gap
 sub-gap c = cases (c .args .upper) (λ e. simp e (omega arith)) (λ e. simp e (omega arith))
 
-add-result : tie.Need-add-result
-add-result c = search needs
+cast-result : tie.Need-cast-result
+cast-result c = search needs
 
 mul-result : tie.Need-mul-result
 mul-result c = cases (c .args .upper) (λ e. simp e (omega (arith, c .pre))) (λ e. simp e (omega (arith, c .pre)))
 
+add-result : tie.Need-add-result
+add-result c = cases (c .args .upper) (λ e. simp e (omega (arith, c .pre))) (λ e. simp e (omega (arith, c .pre)))
+
 add-result-2 : tie.Need-add-result-2
 add-result-2 c = cases (c .args .upper) (λ e. simp e (omega (arith, c .pre))) (λ e. simp e (omega (arith, c .pre)))
+
+cast-result-2 : tie.Need-cast-result-2
+cast-result-2 c = cases (c .args .upper) (λ e. simp e (omega (arith, c .pre))) (λ e. simp e (omega (arith, c .pre)))
 
 returns : tie.Need-returns
 unfolding letterOf
@@ -41,4 +44,4 @@ returns c =
     ]
 
 pub digit-letter-spec : {M : Type 1} → statement M
-digit-letter-spec = tie.close (tie.spec cast-n cast-gap mul-gap sub-gap add-result mul-result add-result-2 returns)
+digit-letter-spec = tie.close (tie.spec cast-gap mul-gap sub-gap cast-result mul-result add-result add-result-2 cast-result-2 returns)
