@@ -49,7 +49,7 @@ fn main() {
     }
 }
 
-/// An object of nothing but PAD bytes, by default none, and one that bears the name.
+/// An object of nothing but PAD bytes, by default none, and one more byte that carries the symbol.
 fn padding(folder: &Path) -> PathBuf {
     let (source, object) = (folder.join("padding.s"), folder.join("padding.o"));
     let bytes = env::var("PAD").unwrap_or_else(|_| "0".to_owned());

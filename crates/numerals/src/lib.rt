@@ -15,14 +15,15 @@ pub enum Radix {
     Hexadecimal,
 }
 
-// The letter of a digit below 16: small, or capital where upper is set. A sum, so that there is no branch: digit / 10 is 1 from ten on and 0 below, and gap is
-// how many other characters stand between 9 and a, or 9 and A. The digit is added last, since what stands before it then has two values only.
+// The letter of a digit below 16: small, or capital where upper is set. A sum, so that there is no branch: n / 10 is 1 from ten on and 0 below, and gap is how
+// many other characters stand between 9 and a, or 9 and A. The digit is added last, since what stands before it then has two values only.
 pub fn digit_letter(digit: u64, upper: bool) -> u8
     requires { ⌜ digit < 16 ⌝ }
     ensures { λ r. ⌜ r ≡ letterOf upper digit ⌝ }
 {
-    let gap = 39 - 32 * (upper as u64);
-    (b'0' as u64 + digit / 10 * gap + digit) as u8
+    let n = digit as u8;
+    let gap = 39 - 32 * (upper as u8);
+    b'0' + n / 10 * gap + n
 }
 
 // How many decimal digits a number of at most four has: one for 0.
@@ -78,7 +79,8 @@ pub fn digits_len(x: u64, radix: Radix) -> usize
     }
 }
 
-// Writes the n lowest digits of x in the base, leading zeros included. Answers n. A turn has no branch but its own, and the compiler takes two at a time.
+// Writes the n lowest digits of x in the base, leading zeros included. Answers n. A turn has no branch but the loop's own test, and the compiler takes several
+// turns at a time.
 fn write_places(out: &mut [u8], x: u64, base: u64, n: usize, upper: bool) -> usize
     requires { ⌜ (1 ≤ base) × (base ≤ 16) × (n ≤ length (now out)) ⌝ }
     ensures { λ r. ⌜ Wrote (now (out .entry)) (lettersOf upper (digitsIn base n x)) r (now (out .exit)) ⌝ }

@@ -1,7 +1,7 @@
 //! Times this library, the original, snprintf, {fmt} and Java on the same rows, and prints tables in Markdown.
 //!
 //! Arguments: FOLDER (of Bench.class; files of callgrind go there). Or `calls INDEX COUNT` to make calls on one row and nothing else; `times` for the
-//! times of this library alone, and `counts FOLDER` for its instructions, a row to a line.
+//! times of this library alone, and `counts FOLDER` for its instructions, a row to a line; `pair` asks for them.
 
 mod fmt;
 mod others;
@@ -49,15 +49,17 @@ fn all_rows() -> Vec<Row> {
     rows::compared().into_iter().chain(rising).collect()
 }
 
-/// The rows of the first table, and those in turn.
+/// The rows of the first table, and those in turn; behind the time what tells whether two libraries print the same.
 fn times_alone() {
     for row in rows::compared() {
         let mut panel = Panel::new(&row);
+        let digest = panel.digest();
         let least = timing::least(&mut [Box::new(|calls| panel.run(calls)) as Calls]);
-        println!("{}\t{}", row.name, least[0]);
+        println!("{}\t{}\t{digest}", row.name, least[0]);
     }
     for rows in rows::in_turn() {
-        println!("{}, {} values\t{}", rows[0].name, grouped(rows::VALUES), measure_in_turn(&rows)[1]);
+        let (digest, least) = (Panel::in_turn(&rows).digest(), measure_in_turn(&rows));
+        println!("{}, {} values\t{}\t{digest}", rows[0].name, grouped(rows::VALUES), least[1]);
     }
 }
 

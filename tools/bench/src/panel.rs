@@ -61,15 +61,17 @@ impl Panel {
         Panel::in_turn(std::slice::from_ref(row))
     }
 
-    /// Rows under one format, of as many bytes each.
+    /// Rows under one format, each of the same number of bytes.
     pub fn in_turn(rows: &[Row]) -> Panel {
         let first = &rows[0];
-        let bytes: Vec<u8> = rows.iter().flat_map(|row| row.pack()).collect();
+        let packed: Vec<Vec<u8>> = rows.iter().map(|row| row.pack()).collect();
+        assert!(packed.iter().all(|bytes| bytes.len() == packed[0].len()), "{}: rows of other lengths", first.name);
+        assert!(rows.len() == 1 || first.call == Call::Print, "{}: one row is measured", first.name);
         Panel {
             call: first.call,
             format: first.format.clone().into_bytes(),
-            row_len: bytes.len() / rows.len(),
-            bytes,
+            row_len: packed[0].len(),
+            bytes: packed.concat(),
             next: 0,
             out: vec![0; ROOM],
             ends: vec![0; 4 * ENDS],
@@ -107,6 +109,18 @@ impl Panel {
     /// The text left by the calls before: no row's text has a byte 0, and the memory had nothing else.
     pub fn text(&self) -> &[u8] {
         CStr::from_bytes_until_nul(&self.out).expect("shorter than ROOM").to_bytes()
+    }
+
+    /// What the rows print, or how long it is, in one number: equal for two libraries that print the same.
+    pub fn digest(&mut self) -> u64 {
+        let mut sum = 0_u64;
+        for _ in 0..self.bytes.len() / self.row_len {
+            self.out.fill(0);
+            sum = sum.wrapping_mul(31).wrapping_add(self.run(1));
+            assert!(self.call == Call::Measure || self.out[0] != 0, "refused");
+            sum = self.text().iter().fold(sum, |sum, &byte| sum.wrapping_mul(31).wrapping_add(u64::from(byte)));
+        }
+        sum
     }
 }
 

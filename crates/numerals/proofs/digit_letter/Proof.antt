@@ -1,5 +1,5 @@
--- `numerals::digit_letter` meets its contract. In each case, small or capital, the gap is a number, so that all is linear in the digit and its tenth.
--- Assumes nothing.
+-- `numerals::digit_letter` meets its contract. In each case, small or capital, the gap is a number, so that all is linear in the digit and its tenth; and the
+-- letter is that of a digit below ten, or from ten on. Assumes nothing.
 use native.Mathlib.Decide.{decLt}
 use native.Mathlib.Omega.{arith}
 use borrow.Table.Steps.{cases}
@@ -8,6 +8,9 @@ use Rattle.numerals.specs.Digits.{letterOf}
 use borrow.Author.Needs.{needs}
 use Rattle.numerals.proofs.digit_letter.Statement.{statement}
 use Rattle.numerals.proofs.digit_letter.Tie as tie
+
+cast-n : tie.Need-cast-n
+cast-n c = search needs
 
 cast-gap : tie.Need-cast-gap
 cast-gap c = search needs
@@ -18,9 +21,6 @@ mul-gap c = cases (c .args .upper) (λ e. simp e (omega arith)) (λ e. simp e (o
 sub-gap : tie.Need-sub-gap
 sub-gap c = cases (c .args .upper) (λ e. simp e (omega arith)) (λ e. simp e (omega arith))
 
-cast-result : tie.Need-cast-result
-cast-result c = search needs
-
 mul-result : tie.Need-mul-result
 mul-result c = cases (c .args .upper) (λ e. simp e (omega (arith, c .pre))) (λ e. simp e (omega (arith, c .pre)))
 
@@ -29,9 +29,6 @@ add-result c = cases (c .args .upper) (λ e. simp e (omega (arith, c .pre))) (λ
 
 add-result-2 : tie.Need-add-result-2
 add-result-2 c = cases (c .args .upper) (λ e. simp e (omega (arith, c .pre))) (λ e. simp e (omega (arith, c .pre)))
-
-cast-result-2 : tie.Need-cast-result-2
-cast-result-2 c = cases (c .args .upper) (λ e. simp e (omega (arith, c .pre))) (λ e. simp e (omega (arith, c .pre)))
 
 returns : tie.Need-returns
 unfolding letterOf
@@ -44,4 +41,4 @@ returns c =
     ]
 
 pub digit-letter-spec : {M : Type 1} → statement M
-digit-letter-spec = tie.close (tie.spec cast-gap mul-gap sub-gap cast-result mul-result add-result add-result-2 cast-result-2 returns)
+digit-letter-spec = tie.close (tie.spec cast-n cast-gap mul-gap sub-gap mul-result add-result add-result-2 returns)
