@@ -1,6 +1,7 @@
 #!/usr/bin/env bash
 # A digit's letter is made without a jump: values with the same number of digits run the same instructions, each the same number of times, whatever the
-# digits. Counted by valgrind's callgrind, instruction by instruction. Usage: panel/counts.sh LIBRARY. Products go to target/panel.
+# digits; and what more digits add is the same in small letters and capitals. Counted by valgrind's callgrind, instruction by instruction. A table would
+# pass: .ci/straight looks for one. Usage: panel/counts.sh LIBRARY. Products go to target/panel.
 set -euo pipefail
 lib=$(realpath "$1")
 cd "$(dirname "$0")/.."
@@ -47,7 +48,7 @@ integers() {
     shift
     for digits in "$@"; do
         case $format in
-            %d) words+=("$(printf %x "$digits")" "$digits") ;;
+            %d | %,d) words+=("$(printf %x "${digits//,/}")" "$digits") ;;
             %o) words+=("$(printf %x "0$digits")" "$digits") ;;
             *) words+=("$digits" "$digits") ;;
         esac
@@ -55,14 +56,30 @@ integers() {
     same "$format" 4 "${words[@]}"
 }
 
+# FORMAT DIGITS MORE: how often each instruction runs more for the second integer; an address and a number to a line.
+added() {
+    run "$1" 4 "$2" "$2"
+    mv $made/counted.now $made/counted.few
+    run "$1" 4 "$3" "$3"
+    awk 'FNR == NR { n[$1] -= $NF; next } { n[$1] += $NF } END { for (a in n) if (n[a]) print a, n[a] }' $made/counted.few $made/counted.now | sort
+}
+
 integers %x 1111111111111111 1a2b3c4d5e6f7a8b 1000000000000000 7999999999999999 7fffffffffffffff
 integers %X 1111111111111111 1A2B3C4D5E6F7A8B 1000000000000000 7999999999999999 7FFFFFFFFFFFFFFF
 integers %x 1111111 1a2b3c4 1000000 9999999 fffffff
 integers %X 1111111 1A2B3C4 1000000 9999999 FFFFFFF
 integers %d 1111111 1234567 1000000 9999999
+integers %,d 1,111,111 1,234,567 1,000,000 9,999,999
 integers %o 1111111 1234567 1000000 7777777
 same %a 5 3ff1111111111111 0x1.1111111111111p0 3ff1a2b3c4d5e6f7 0x1.1a2b3c4d5e6f7p0 3ff0000000000001 0x1.0000000000001p0 \
     3ff9999999999999 0x1.9999999999999p0 3fffffffffffffff 0x1.fffffffffffffp0
 same %A 5 3ff1111111111111 0X1.1111111111111P0 3ff1a2b3c4d5e6f7 0X1.1A2B3C4D5E6F7P0 3ff0000000000001 0X1.0000000000001P0 \
     3ff9999999999999 0X1.9999999999999P0 3fffffffffffffff 0X1.FFFFFFFFFFFFFP0
+added %x 1a2b3c4 1a2b3c4d5 > $made/counted.small
+added %X 1A2B3C4 1A2B3C4D5 > $made/counted.capital
+if [ ! -s $made/counted.small ] || ! cmp -s $made/counted.small $made/counted.capital; then
+    echo "error: two digits more add other instructions under %x than under %X" >&2
+    failed=1
+fi
+[ "$failed" != 0 ] || echo "counts: two digits more add the same instructions under %x and %X"
 exit $failed
