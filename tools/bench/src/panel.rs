@@ -115,7 +115,8 @@ impl Panel {
     pub fn digest(&mut self) -> u64 {
         let mut sum = 0_u64;
         for _ in 0..self.bytes.len() / self.row_len {
-            self.out.fill(0);
+            let printed = self.text().len();
+            self.out[..printed].fill(0);
             sum = sum.wrapping_mul(31).wrapping_add(self.run(1));
             assert!(self.call == Call::Measure || self.out[0] != 0, "refused");
             sum = self.text().iter().fold(sum, |sum, &byte| sum.wrapping_mul(31).wrapping_add(u64::from(byte)));
