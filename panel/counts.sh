@@ -27,19 +27,19 @@ run() {
 failed=0
 # FORMAT KIND BITS TEXT [BITS TEXT]...: all run what the first runs.
 same() {
-    local format=$1 kind=$2 first=$4 values=0
+    local format=$1 kind=$2 first=$4 values=0 other=0
     shift 2
     while [ $# -gt 0 ]; do
         run "$format" "$kind" "$1" "$2"
         [ $values -gt 0 ] || cp $made/counted.now $made/counted.first
         if ! cmp -s $made/counted.first $made/counted.now; then
             echo "error: $format runs other instructions for $2 than for $first" >&2
-            failed=1
+            failed=1 other=1
         fi
         values=$((values + 1))
         shift 2
     done
-    [ "$failed" != 0 ] || echo "counts: $format runs the same instructions for $values values"
+    [ $other != 0 ] || echo "counts: $format runs the same instructions for $values values"
 }
 
 # FORMAT DIGITS...: 64-bit integers, as these digits.
@@ -56,12 +56,26 @@ integers() {
     same "$format" 4 "${words[@]}"
 }
 
-# FORMAT DIGITS MORE: how often each instruction runs more for the second integer; an address and a number to a line.
+# FORMAT KIND BITS TEXT BITS TEXT: how often each instruction runs more for the second value; an address and a number to a line.
 added() {
-    run "$1" 4 "$2" "$2"
+    run "$1" "$2" "$3" "$4"
     mv $made/counted.now $made/counted.few
-    run "$1" 4 "$3" "$3"
+    run "$1" "$2" "$5" "$6"
     awk 'FNR == NR { n[$1] -= $NF; next } { n[$1] += $NF } END { for (a in n) if (n[a]) print a, n[a] }' $made/counted.few $made/counted.now | sort
+}
+
+# SMALL CAPITAL KIND BITS TEXT BITS TEXT: the second value, of more digits, adds the same under both formats. The texts are those of the first.
+alike() {
+    local small=$1 capital=$2
+    shift 2
+    added "$small" "$@" > $made/counted.small
+    added "$capital" "$1" "$2" "${3^^}" "$4" "${5^^}" > $made/counted.capital
+    if [ -s $made/counted.small ] && cmp -s $made/counted.small $made/counted.capital; then
+        echo "counts: more digits add the same instructions under $small and $capital"
+    else
+        echo "error: more digits add other instructions under $small than under $capital" >&2
+        failed=1
+    fi
 }
 
 integers %x 1111111111111111 1a2b3c4d5e6f7a8b 1000000000000000 7999999999999999 7fffffffffffffff
@@ -75,11 +89,6 @@ same %a 5 3ff1111111111111 0x1.1111111111111p0 3ff1a2b3c4d5e6f7 0x1.1a2b3c4d5e6f
     3ff9999999999999 0x1.9999999999999p0 3fffffffffffffff 0x1.fffffffffffffp0
 same %A 5 3ff1111111111111 0X1.1111111111111P0 3ff1a2b3c4d5e6f7 0X1.1A2B3C4D5E6F7P0 3ff0000000000001 0X1.0000000000001P0 \
     3ff9999999999999 0X1.9999999999999P0 3fffffffffffffff 0X1.FFFFFFFFFFFFFP0
-added %x 1a2b3c4 1a2b3c4d5 > $made/counted.small
-added %X 1A2B3C4 1A2B3C4D5 > $made/counted.capital
-if [ ! -s $made/counted.small ] || ! cmp -s $made/counted.small $made/counted.capital; then
-    echo "error: two digits more add other instructions under %x than under %X" >&2
-    failed=1
-fi
-[ "$failed" != 0 ] || echo "counts: two digits more add the same instructions under %x and %X"
+alike %x %X 4 1a2b3c4 1a2b3c4 1a2b3c4d5 1a2b3c4d5
+alike %a %A 5 3ff1a2b3c4d50000 0x1.1a2b3c4d5p0 3ff1a2b3c4d5e600 0x1.1a2b3c4d5e6p0
 exit $failed

@@ -1,5 +1,5 @@
--- `numerals::digit_letter` meets its contract. In each case, small or capital, the gap is a number, so that all is linear in the digit and its quotient by ten;
--- and the letter is that of a digit below ten, or from ten on. Assumes nothing.
+-- `numerals::digit_letter` meets its contract. In each case, small or capital, the gap is a number, so that all is linear in the digit and its quotient
+-- by ten; and the letter is that of a digit below ten, or from ten on. Assumes nothing.
 use native.Mathlib.Decide.{decLt}
 use native.Mathlib.Omega.{arith}
 use borrow.Table.Steps.{cases}
