@@ -21,7 +21,10 @@ run() {
         echo "error: $1 printed $(cat $made/counted.text), not $4" >&2
         exit 1
     fi
-    grep '^0x' $made/counted.trace | sort > $made/counted.now
+    grep '^0x' $made/counted.trace | sort > $made/counted.now || {
+        echo "error: nothing was counted for $1" >&2
+        exit 1
+    }
 }
 
 failed=0
@@ -56,7 +59,8 @@ integers() {
     same "$format" 4 "${words[@]}"
 }
 
-# FORMAT KIND BITS TEXT BITS TEXT: how often each instruction runs more for the second value; an address and a number to a line.
+# FORMAT KIND BITS TEXT BITS TEXT: how often each instruction runs more for the second value, at a call also what runs within it; an address and a number
+# to a line.
 added() {
     run "$1" "$2" "$3" "$4"
     mv $made/counted.now $made/counted.few
