@@ -3,4 +3,4 @@ mod Years
 pub mod Only
 mod Estimate
 mod Finite
-mod Epoch
+pub mod Epoch

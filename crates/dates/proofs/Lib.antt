@@ -1,2 +1,2 @@
 mod Numbers
-mod Symbols
+pub mod Symbols

@@ -47,7 +47,7 @@ module _ (s row : List ℕ) where
       (λ _. by-test (Says s row) (wellFormed s) _ _
       (λ _. by-test (Says s row) (isRow row) _ _ (λ r. says-end r (ended s (kindsOf row)) refl) (λ _. tt)) (λ _. tt))
 
-  accepted : (n k : ℕ) → measured s row ≡ Accepted n k → Accepts s row n k
+  pub accepted : (n k : ℕ) → measured s row ≡ Accepted n k → Accepts s row n k
   accepted n k e = subst (Says s row) e says
 
 -- What a format and row have that are printed into so much room.

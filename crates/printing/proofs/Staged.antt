@@ -59,7 +59,7 @@ module _ (s row : List ℕ) where
       (λ c. simp (le-leb (length s) mostFormat (ltb-false mostFormat (length s) a), b, c) (whole-end (ended s (kindsOf row)))) (λ _. tt)) (λ _. tt))
 
   module _ {n k : ℕ} (a : measured s row ≡ Accepted n k) {d e out ends : List ℕ} (w : Staged s row d e out ends) where
-    all-texts : stagedTexts s row ≡ texts s row
+    pub all-texts : stagedTexts s row ≡ texts s row
     all-texts = subst (Whole s row (stagedTexts s row)) a whole
 
     pub staged-text : length (printedText s row) ≤ length d → out ≡ laid d (printedText s row)

@@ -24,3 +24,7 @@ mostValues = 64
 
 abbrev pub mostText : ℕ
 mostText = 32768
+
+-- 02, E4: "up to 128 gates"
+abbrev pub mostGates : ℕ
+mostGates = 128

@@ -37,6 +37,12 @@ pub const NO_SCALAR: u8 = 16;
 pub const NO_ROOM: u8 = 17;
 // 02, E1: a negative timestamp that is not a whole second, under t or T
 pub const NO_WHOLE_SECOND: u8 = 18;
+// 02, E4: a join of a gate present
+pub const GATE_PRESENT: u8 = 19;
+// 02, E4: a leave of a gate absent
+pub const GATE_ABSENT: u8 = 20;
+// 02, E4: a join when 128 are present
+pub const LIST_FULL: u8 = 21;
 
 // The most bytes of a format, kinds of a check, and pieces.
 pub const MOST_FORMAT: usize = 4096;
@@ -52,3 +58,5 @@ pub const LARGEST_END: u64 = 4294967295;
 pub const MOST_VALUES: u64 = 64;
 
 pub const MOST_TEXT: u64 = 32768;
+// The most gates of a list.
+pub const MOST_GATES: usize = 128;

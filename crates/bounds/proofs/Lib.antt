@@ -1,0 +1,6 @@
+mod Elements
+mod Frames
+mod Floats
+mod Dates
+mod Texts
+pub mod Bounds

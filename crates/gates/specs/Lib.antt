@@ -1,0 +1,3 @@
+pub mod Gates
+pub mod Causes
+pub mod Same

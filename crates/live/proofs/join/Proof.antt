@@ -1,0 +1,128 @@
+-- `live::join` meets its contract. Assumes nothing.
+use mathlib.Core.Path.{sym, ap, subst, _∙_}
+use Prim.Native.Nat.{ℕ}
+use native.Mathlib.Omega.{arith}
+use lib.ListN.{length-replicate}
+use Rattle.rows.proofs.Rows.{AllBytes}
+use Rattle.gates.specs.Gates.{joins, ifMeasured}
+use Rattle.gates.specs.declared.Changed.{Changed}
+use Rattle.live.specs.Promises.{Changes}
+use Rattle.live.proofs.Changing.{is-present, is-full, is-unmeasured, is-joined}
+use Rattle.live.proofs.Ends.{length-is}
+use borrow.Author.Needs.{needs}
+use Rattle.live.proofs.join.Statement.{statement}
+use Rattle.live.proofs.join.Tie as tie
+
+count-of-requires : tie.Need-count-of-requires
+count-of-requires c κs = search needs
+
+place-of-requires : tie.Need-place-of-requires
+place-of-requires c κs = search needs
+
+cast-t16 : tie.Need-cast-t16
+cast-t16 c = search needs
+
+same-length : tie.Need-same-length
+same-length c = search needs
+
+returns : tie.Need-returns
+returns c =
+    let a = c .before .before .before .before .before .before .before .before .args in
+    let p = c .before .place-of in
+    let n = c .before .before .before .count-of in
+    is-present (a .fmt .now) (a .list .now) (a .gate) (n .result) (p .result) (n .ensures) (p .ensures) (a .row .now) (c .if1 .taken)
+
+cast-t17 : tie.Need-cast-t17
+cast-t17 c = search needs
+
+same-length-2 : tie.Need-same-length-2
+same-length-2 c = search needs
+
+returns-2 : tie.Need-returns-2
+returns-2 c =
+    let a = c .before .before .before .before .before .before .before .before .before .args in
+    let p = c .before .before .place-of in
+    let n = c .before .before .before .before .count-of in
+    is-full (a .fmt .now) (a .list .now) (a .gate) (n .result) (p .result) (n .ensures) (p .ensures) (a .row .now) (c .before .if1 .left) (c .if2 .taken)
+
+array-borrow-prefix-text : tie.Need-array-borrow-prefix-text
+array-borrow-prefix-text c = search needs
+
+slice-aggregate-stage : tie.Need-slice-aggregate-stage
+slice-aggregate-stage c = search needs
+
+slice-aggregate-stage-2 : tie.Need-slice-aggregate-stage-2
+slice-aggregate-stage-2 c = search needs
+
+stage-requires : tie.Need-stage-requires
+stage-requires c κs = search needs
+
+enum-known-found : tie.Need-enum-known-found
+enum-known-found c = search needs
+
+enum-told : tie.Need-enum-told
+enum-told c = search needs
+
+refused-by-requires : tie.Need-refused-by-requires
+refused-by-requires c κs = search needs
+
+same-length-3 : tie.Need-same-length-3
+same-length-3 c = search needs
+
+returns-3 : tie.Need-returns-3
+returns-3 c =
+    let a = c .before .before .before .before .before .before .before .before .before .before .before .before .before .before .before .before .before .args in
+    let p = c .before .before .before .before .before .before .before .before .before .before .place-of in
+    let n = c .before .before .before .before .before .before .before .before .before .before .before .before .count-of in
+    let t = c .before .enum-told .given in
+    let e = c .before .before .before .before .before .stage .ensures .0 in
+    let x = is-unmeasured (a .fmt .now) (a .list .now) (a .gate) (n .result) (p .result) (n .ensures) (p .ensures) (a .row .now) (c .before .before .before .before .before .before .before .before .before .if1 .left) (omega (arith, c .before .before .before .before .before .before .before .before .if2 .left)) (t .0 .0) (t .0 .1 .0) (sym e ∙ t .1) in
+    subst (λ (r : Changed). Changes (a .fmt .now) (joins (a .gate) (a .row .now)) (a .list .now) r (a .list .now))
+    (sym (c .refused-by .ensures ∙ ap ifMeasured (t .1))) x
+
+slice-aggregate-take-in : tie.Need-slice-aggregate-take-in
+slice-aggregate-take-in c = search needs
+
+take-in-requires : tie.Need-take-in-requires
+take-in-requires c κs = search needs
+
+same-length-4 : tie.Need-same-length-4
+same-length-4 c = search needs
+
+returns-4 : tie.Need-returns-4
+returns-4 c =
+    let a = c .before .before .before .before .before .before .before .before .before .before .before .before .before .before .before .before .before .before .before .before .before .before .args in
+    let p = c .before .before .before .before .before .before .before .before .before .before .before .before .before .before .before .place-of in
+    let n = c .before .before .before .before .before .before .before .before .before .before .before .before .before .before .before .before .before .count-of in
+    let t = c .before .before .before .before .before .before .found .given in
+    let g = c .before .before .before .before .before .before .before .before .before .before .stage in
+    let e = sym (g .ensures .0) ∙ t .1 in
+    let bytes : AllBytes (a .row .now) = λ i. omega (arith, c .before .before .before .before .before .before .before .before .before .before .before .before .before .before .before .before .before .before .before .shared-slice-known2 .given i) in
+    is-joined (a .fmt .now) (a .list .now) (a .gate) (n .result) (p .result) (n .ensures) (p .ensures) (a .row .now) (c .before .before .before .before .before .before .before .before .before .before .before .before .before .before .if1 .left) (omega (arith, c .before .before .before .before .before .before .before .before .before .before .before .before .before .if2 .left)) (t .0 .0) (t .0 .1 .0) e _ _ (c .before .before .take-in .ensures)
+    (length-is (a .fmt .now) (a .row .now) (t .0 .0) (t .0 .1 .0) e bytes (length-replicate {A = ℕ} 512 0) (g .ensures .1))
+
+pub join-spec : {M : Type 1} → statement M
+join-spec =
+    tie.close
+    (tie.spec
+    count-of-requires
+    place-of-requires
+    cast-t16
+    same-length
+    returns
+    cast-t17
+    same-length-2
+    returns-2
+    array-borrow-prefix-text
+    slice-aggregate-stage
+    slice-aggregate-stage-2
+    stage-requires
+    enum-known-found
+    enum-told
+    refused-by-requires
+    same-length-3
+    returns-3
+    slice-aggregate-take-in
+    take-in-requires
+    same-length-4
+    returns-4)

@@ -1,0 +1,64 @@
+-- `live::take_in` meets its contract. Assumes nothing.
+use mathlib.Core.Path.{_∙_}
+use native.Mathlib.Omega.{arith}
+use lib.ListN.{length-set}
+use Rattle.live.proofs.Ins.{taken-in}
+use borrow.Author.Needs.{needs}
+use Rattle.live.proofs.take_in.Statement.{statement}
+use Rattle.live.proofs.take_in.Tie as tie
+
+mul-at : tie.Need-mul-at
+mul-at c = search needs
+
+add-at : tie.Need-add-at
+add-at c = search needs
+
+write-lengths-requires : tie.Need-write-lengths-requires
+write-lengths-requires c κs = search needs
+
+raise-requires : tie.Need-raise-requires
+raise-requires c κs = search needs
+
+add-list : tie.Need-add-list
+add-list c = search needs
+
+mul-list : tie.Need-mul-list
+mul-list c = search needs
+
+slice-write-list : tie.Need-slice-write-list
+slice-write-list c = search needs
+
+add-list-2 : tie.Need-add-list-2
+add-list-2 c = search needs
+
+cast-list : tie.Need-cast-list
+cast-list c = search needs
+
+slice-write-list-2 : tie.Need-slice-write-list-2
+slice-write-list-2 c = simp length-set (omega (arith, c .before .before .raise .ensures .size, c .before .before .before .before .before .before .write-lengths .ensures .size, c .before .before .before .before .before .before .before .before .before .before .pre))
+
+same-length : tie.Need-same-length
+same-length c = simp length-set (c .before .before .raise .ensures .size ∙ c .before .before .before .before .before .before .write-lengths .ensures .size)
+
+returns : tie.Need-returns
+returns c =
+    let s = c .before .before .before .before .before .before .before .before .before .before in
+    let a = s .args in
+    taken-in (a .list .now) _ _ (a .count) (a .gate) (a .ends .now) (a .pieces) (s .pre .0) (s .pre .2) (c .before .before .before .before .before .before .write-lengths .ensures) (c .before .before .raise .ensures)
+
+pub take-in-spec : {M : Type 1} → statement M
+take-in-spec =
+    tie.close
+    (tie.spec
+    mul-at
+    add-at
+    write-lengths-requires
+    raise-requires
+    add-list
+    mul-list
+    slice-write-list
+    add-list-2
+    cast-list
+    slice-write-list-2
+    same-length
+    returns)
