@@ -89,16 +89,19 @@ module _ (s : List ℕ) (m : List ℕ) (n count place : ℕ) (counted : count �
     unfolding answer
     is-unmeasured h few number at e =
         refuses s (joins n row) m number at (λ z. omega (arith, number-in-table (measuring s row) number at (ap ofOutcome e)))
-        (λ gates r. simp (missing s m n count place counted p gates r h,
-        lt-leb mostGates (length gates) (omega (arith, as-many s m n count place counted p gates r)), e))
+        (λ gates r. simp (
+          missing s m n count place counted p gates r h,
+          lt-leb mostGates (length gates) (omega (arith, as-many s m n count place counted p gates r)),
+          e,
+        ))
 
     pub is-joined : count ≤ place → count < mostGates → (bytes pieces : ℕ) → measured s row ≡ O.Accepted bytes pieces → (ends m′ : List ℕ)
         → TakenIn m count n ends pieces m′ → ((k : ℕ) → lengthIn ends pieces k ≡ pieceLength s row k) → Changes s (joins n row) m done m′
     unfolding answer
     is-joined h few bytes pieces e ends m′ w is = does s (joins n row) m m′ (λ gates r. (
-          simp (missing s m n count place counted p gates r h, lt-leb mostGates (length gates) (omega (arith, as-many s m n count place counted p gates r)), e),
-          now gates r,
-        ))
+      simp (missing s m n count place counted p gates r h, lt-leb mostGates (length gates) (omega (arith, as-many s m n count place counted p gates r)), e),
+      now gates r,
+    ))
       where
         g : Gate
         g = record { number = n; row = row }

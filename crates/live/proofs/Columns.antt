@@ -19,9 +19,10 @@ module _ (m : List ℕ) (k : ℕ) where
   unfolding columnLargest
   column-reaches zero i h = absurd (omega arith)
   column-reaches (suc n) i h =
-      elim (decLt i n)
-      [ yes p ↦ omega (arith, column-reaches n i p)
-      | no p ↦ let e : i ≡ n = omega arith in rw e (omega arith) ]
+      elim (decLt i n) [
+        | yes p ↦ omega (arith, column-reaches n i p)
+        | no p ↦ let e : i ≡ n = omega arith in rw e (omega arith)
+      ]
 
 pub column-same : (a b : List ℕ) (k n : ℕ) → ((i : ℕ) → i < n → lengthAt a i k ≡ lengthAt b i k) → columnLargest a n k ≡ columnLargest b n k
 unfolding columnLargest

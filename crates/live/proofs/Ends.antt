@@ -32,9 +32,10 @@ use Rattle.live.specs.Steps.{lengthIn}
 accepted-short : (s row : List ℕ) (n k : ℕ) → measured s row ≡ Accepted n k → length s ≤ mostFormat
 unfolding measured
 accepted-short s row n k e =
-    elim (decLt mostFormat (length s))
-    [ yes h ↦ absurd (let f : Refused 1 0 ≡ Accepted n k = simp (lt-ltb mostFormat (length s) h) at e in let z : _≡_ {A = ℕ} 0 1 = cc in omega arith)
-    | no h ↦ omega arith ]
+    elim (decLt mostFormat (length s)) [
+      | yes h ↦ absurd (let f : Refused 1 0 ≡ Accepted n k = simp (lt-ltb mostFormat (length s) h) at e in let z : _≡_ {A = ℕ} 0 1 = cc in omega arith)
+      | no h ↦ omega arith
+    ]
 
 -- The k-th of the ends, as they are left over e, which has room for all of them.
 nth-low : (ts : List (List ℕ)) (e : List ℕ) (k : ℕ) → length ts ≤ length e → k < length ts
@@ -72,6 +73,7 @@ module _ (s row : List ℕ) (n pieces : ℕ) (a : measured s row ≡ Accepted n 
 
   pub length-is : (k : ℕ) → lengthIn ends pieces k ≡ pieceLength s row k
   length-is k =
-      elim (decLt k pieces)
-      [ yes h ↦ simp (lt-ltb k pieces h) (omega (arith, end-of k h, before-of k h, between ts k (omega (arith, as-many)), small k))
-      | no h ↦ simp (le-ltb k pieces (omega arith)) (sym (ap length (List·getD-eq-default ts [] (omega (arith, as-many))))) ]
+      elim (decLt k pieces) [
+        | yes h ↦ simp (lt-ltb k pieces h) (omega (arith, end-of k h, before-of k h, between ts k (omega (arith, as-many)), small k))
+        | no h ↦ simp (le-ltb k pieces (omega arith)) (sym (ap length (List·getD-eq-default ts [] (omega (arith, as-many)))))
+      ]

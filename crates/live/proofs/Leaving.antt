@@ -27,11 +27,13 @@ column-is s k m gates h (suc n) l =
 
 lowered-is : (own top rest : ℕ) → top ≡ max own rest → lowered own top rest ≡ rest
 lowered-is own top rest e =
-    elim (decLt 0 own)
-    [ yes p ↦ elim (decLt own top)
-        [ yes q ↦ simp (ne-eqb own 0 (λ z. omega arith), lt-ltb own top q) (omega arith)
-        | no q ↦ simp (ne-eqb own 0 (λ z. omega arith), le-ltb own top (omega arith)) (omega arith) ]
-    | no p ↦ let z : own ≡ 0 = omega arith in simp (eq-eqb own 0 z) (omega arith) ]
+    elim (decLt 0 own) [
+      | yes p ↦ elim (decLt own top) [
+        | yes q ↦ simp (ne-eqb own 0 (λ z. omega arith), lt-ltb own top q) (omega arith)
+        | no q ↦ simp (ne-eqb own 0 (λ z. omega arith), le-ltb own top (omega arith)) (omega arith)
+      ]
+      | no p ↦ let z : own ≡ 0 = omega arith in simp (eq-eqb own 0 z) (omega arith)
+    ]
 
 -- One gate less: the last takes its place.
 module _ (s : List ℕ) (gates : List Gate) (m M : List ℕ) (place last : ℕ) (h : Holds s gates m) (there : place < length gates)
@@ -50,11 +52,13 @@ module _ (s : List ℕ) (gates : List Gate) (m M : List ℕ) (place last : ℕ) 
 
   by-place : (P : ℕ → Type 0) → (place < last → P place) → ((i : ℕ) → i < last → (i ≡ place → ⊥) → P i) → (i : ℕ) → i < length rest → P i
   by-place P a b i l =
-      elim (decLt i place)
-      [ yes p ↦ b i (omega (arith, less)) (λ e. omega arith)
-      | no p ↦ elim (decLt place i)
-          [ yes q ↦ b i (omega (arith, less)) (λ e. omega arith)
-          | no q ↦ let e : place ≡ i = omega arith in subst P e (a (omega (arith, less))) ] ]
+      elim (decLt i place) [
+        | yes p ↦ b i (omega (arith, less)) (λ e. omega arith)
+        | no p ↦ elim (decLt place i) [
+          | yes q ↦ b i (omega (arith, less)) (λ e. omega arith)
+          | no q ↦ let e : place ≡ i = omega arith in subst P e (a (omega (arith, less)))
+        ]
+      ]
 
   last-gate : place < last → gateAt rest place ≡ gateAt gates last
   last-gate l = taken-there place last gates is l
@@ -83,8 +87,8 @@ module _ (s : List ℕ) (gates : List Gate) (m M : List ℕ) (place last : ℕ) 
   unfolding largest
   longest k b =
       let column : columnLargest M last k ≡ largest s k rest =
-          column-same M end k last (λ i l. sym (stays (641 + 512 * i + k) (λ e. omega arith) (λ e. omega (arith, h .few))))
-          ∙ column-is s k end rest (λ i l. lengths i k l b) last (omega (arith, less)) ∙ ap (largest s k) (ap (λ (n : ℕ). take n rest) (sym less) ∙ take-length rest) in
+      column-same M end k last (λ i l. sym (stays (641 + 512 * i + k) (λ e. omega arith) (λ e. omega (arith, h .few))))
+      ∙ column-is s k end rest (λ i l. lengths i k l b) last (omega (arith, less)) ∙ ap (largest s k) (ap (λ (n : ℕ). take n rest) (sym less) ∙ take-length rest) in
       stays (129 + k) (λ e. omega arith) (λ e. omega (arith, h .few)) ∙ w .lower k b
       ∙ rw (column, h .lengths place k there b, h .longest k b)
       (lowered-is (pieceLength s (gateAt gates place .row) k) (largest s k gates) (largest s k rest) (same-largest s k (same-taken place gates there)))

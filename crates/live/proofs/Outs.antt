@@ -76,9 +76,10 @@ module _ (n place last : ℕ) (m M N : List ℕ) (p : place ≤ last) (l : last 
     (x : TakenOutAt place last n M N) where
   last-kept : lengthAt M last n ≡ lengthAt m last n
   last-kept =
-      elim (decLt place last)
-      [ yes h ↦ w .others last n (λ e. omega arith) q
-      | no h ↦ let e : last ≡ place = omega arith in rw e (w .later n (omega arith) q) ]
+      elim (decLt place last) [
+        | yes h ↦ w .others last n (λ e. omega arith) q
+        | no h ↦ let e : last ≡ place = omega arith in rw e (w .later n (omega arith) q)
+      ]
 
   length-kept : (i k : ℕ) → k < mostPieces → (k ≡ n → ⊥) → lengthAt N i k ≡ lengthAt M i k
   length-kept i k h j = x .kept (641 + 512 * i + k) (λ e. omega arith) (λ e. j (omega arith))
@@ -88,16 +89,18 @@ module _ (n place last : ℕ) (m M N : List ℕ) (p : place ≤ last) (l : last 
 
   moved-more : (k : ℕ) → k < n + 1 → lengthAt N place k ≡ lengthAt m last k
   moved-more k h =
-      elim (decLt k n)
-      [ yes j ↦ length-kept place k (omega arith) (λ e. omega arith) ∙ w .moved k j
-      | no j ↦ let e : k ≡ n = omega arith in rw e (x .moved ∙ last-kept) ]
+      elim (decLt k n) [
+        | yes j ↦ length-kept place k (omega arith) (λ e. omega arith) ∙ w .moved k j
+        | no j ↦ let e : k ≡ n = omega arith in rw e (x .moved ∙ last-kept)
+      ]
 
   lower-more : (k : ℕ) → k < n + 1 → longestAt N k ≡ lowered (lengthAt m place k) (longestAt m k) (columnLargest N last k)
   lower-more k h =
-      elim (decLt k n)
-      [ yes j ↦ top-stays k (omega arith) (λ e. omega arith) ∙ w .lower k j
-          ∙ ap (lowered (lengthAt m place k) (longestAt m k)) (column-same M N k last (λ i b. sym (length-kept i k (omega arith) (λ e. omega arith))))
-      | no j ↦ let e : k ≡ n = omega arith in rw (e, ← w .later n (omega arith) q, ← w .tops n (omega arith) q) (x .lower) ]
+      elim (decLt k n) [
+        | yes j ↦ top-stays k (omega arith) (λ e. omega arith) ∙ w .lower k j
+            ∙ ap (lowered (lengthAt m place k) (longestAt m k)) (column-same M N k last (λ i b. sym (length-kept i k (omega arith) (λ e. omega arith))))
+        | no j ↦ let e : k ≡ n = omega arith in rw (e, ← w .later n (omega arith) q, ← w .tops n (omega arith) q) (x .lower)
+      ]
 
   pub out-more : TakenOut (n + 1) place last m N
   out-more =

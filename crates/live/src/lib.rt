@@ -11,6 +11,14 @@ ghost use Rattle.live.specs.Lists.{countOf};
 ghost use Rattle.live.specs.Steps.{PlaceOf, lengthIn, Stored, raisedTo, TakenIn, columnLargest, TakenOutAt, TakenOut};
 ghost use Rattle.live.specs.Promises.{Emptied, Changes, Leaves, Lengths};
 
+// The words of a list's memory: how many gates are present, 128 numbers, then 512 largest lengths from LONGEST on, and from LENGTHS on 512 lengths for
+// each of 128 gates.
+pub const WORDS: usize = 66177;
+
+const LONGEST: usize = 129;
+
+const LENGTHS: usize = 641;
+
 fn wide(x: u32) -> usize
     ensures { λ r. ⌜ r ≡ x ⌝ }
 {
@@ -23,7 +31,11 @@ fn count_of(list: &[u32]) -> usize
     ensures { λ r. ⌜ r ≡ min (countOf (now (list .entry))) 128 ⌝ }
 {
     let count = wide(list[0]);
-    if count < 128 { count } else { 128 }
+    if count < refusals::MOST_GATES {
+        count
+    } else {
+        refusals::MOST_GATES
+    }
 }
 
 // Where the gate stands.
@@ -49,7 +61,7 @@ pub fn empty(list: &mut [u32])
     list[0] = 0;
     let mut k = 0;
     while k < refusals::MOST_PIECES {
-        list[129 + k] = 0;
+        list[LONGEST + k] = 0;
         k = k + 1;
     }
 }
@@ -93,7 +105,7 @@ fn raise(list: &mut [u32], at: usize)
 {
     let mut k = 0;
     while k < refusals::MOST_PIECES {
-        list[129 + k] = larger(list[129 + k], list[at + k]);
+        list[LONGEST + k] = larger(list[LONGEST + k], list[at + k]);
         k = k + 1;
     }
 }
@@ -103,7 +115,7 @@ fn take_in(list: &mut [u32], count: usize, gate: u32, ends: &[u32], pieces: usiz
     requires { ⌜ (length (now list) ≡ 66177) × (length (now ends) ≡ 512) × (count < 128) ⌝ }
     ensures { λ r. ⌜ TakenIn (now (list .entry)) count gate (now (ends .entry)) pieces (now (list .exit)) ⌝ }
 {
-    let at = 641 + 512 * count;
+    let at = LENGTHS + refusals::MOST_PIECES * count;
     write_lengths(list, at, ends, pieces);
     raise(list, at);
     list[1 + count] = gate;
@@ -169,7 +181,7 @@ fn column_largest(list: &[u32], n: usize, k: usize, top: u32) -> u32
     let mut most = 0;
     let mut i = 0;
     while i < n {
-        let len = list[641 + 512 * i + k];
+        let len = list[LENGTHS + refusals::MOST_PIECES * i + k];
         if top <= len {
             return top;
         }
@@ -184,17 +196,17 @@ fn take_out_at(list: &mut [u32], place: usize, last: usize, k: usize)
     requires { ⌜ (length (now list) ≡ 66177) × (place ≤ last) × (last < 128) × (k < 512) ⌝ }
     ensures { λ r. ⌜ TakenOutAt place last k (now (list .entry)) (now (list .exit)) ⌝ }
 {
-    let at = 641 + 512 * place + k;
-    let from = 641 + 512 * last + k;
+    let at = LENGTHS + refusals::MOST_PIECES * place + k;
+    let from = LENGTHS + refusals::MOST_PIECES * last + k;
     let own = list[at];
     list[at] = list[from];
     if own == 0 {
         return;
     }
-    if own < list[129 + k] {
+    if own < list[LONGEST + k] {
         return;
     }
-    list[129 + k] = column_largest(list, last, k, own);
+    list[LONGEST + k] = column_largest(list, last, k, own);
 }
 
 // The same of all its lengths.
@@ -240,7 +252,7 @@ pub fn lengths(list: &[u32], out: &mut [u64])
 {
     let mut k = 0;
     while k < refusals::MOST_PIECES {
-        out[k] = wide(list[129 + k]) as u64;
+        out[k] = wide(list[LONGEST + k]) as u64;
         k = k + 1;
     }
 }

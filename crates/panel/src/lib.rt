@@ -1,4 +1,6 @@
-// The panel's C entries: checking, measuring and printing on numbers and byte slices. panel.h has their meaning for C.
+// The panel's C entries: checking, measuring and printing on numbers and byte slices, and a list of gates that join and leave. panel.h has their meaning
+// for C.
+use gates::Changed;
 use outcomes::Outcome;
 use parsing::Checked;
 ghost use mathlib.Core.Path.{_≡_};
@@ -8,6 +10,8 @@ ghost use Rattle.parsing.specs.Check.{checked};
 ghost use Rattle.outcomes.specs.Printed.{measured, printed};
 ghost use Rattle.outcomes.specs.declared.Outcome.the-variants.{Accepted};
 ghost use Rattle.writing.specs.Laid.{laid};
+ghost use Rattle.gates.specs.Gates.{joins};
+ghost use Rattle.live.specs.Promises.{Emptied, Changes, Leaves, Lengths};
 ghost use Rattle.panel.specs.Entries.{checkAnswer, printAnswer, Holds, Prints, BothLaid, PanelPrints};
 
 // number is 0 where the format is accepted; else it is the refusal's, with its place.
@@ -154,4 +158,41 @@ pub extern "C" fn panel_print<'a>(
     ensures { λ r. ⌜ PanelPrints (now (fmt .entry)) (now (row .entry)) (now (out .entry)) (now (ends .entry)) r (now (out .exit)) (now (ends .exit)) ⌝ }
 {
     print_answer(print_staged(fmt, row, out, ends))
+}
+
+// Empties a list of gates.
+#[no_mangle]
+pub extern "C" fn panel_list_empty(list: &mut [u32; live::WORDS])
+    ensures { λ r. ⌜ Emptied (now (list .exit)) ⌝ }
+{
+    live::empty(list);
+}
+
+// A gate joins a list, with its row under the list's format.
+#[no_mangle]
+pub extern "C" fn panel_list_join<'a>(
+    list: &mut [u32; live::WORDS],
+    gate: u32,
+    fmt: &'a [u8],
+    row: &'a [u8],
+) -> Changed
+    ensures { λ r. ⌜ Changes (now (fmt .entry)) (joins gate (now (row .entry))) (now (list .entry)) r (now (list .exit)) ⌝ }
+{
+    live::join(list, gate, fmt, row)
+}
+
+// A gate leaves a list.
+#[no_mangle]
+pub extern "C" fn panel_list_leave(list: &mut [u32; live::WORDS], gate: u32) -> Changed
+    ensures { λ r. ⌜ Leaves gate (now (list .entry)) r (now (list .exit)) ⌝ }
+{
+    live::leave(list, gate)
+}
+
+// The largest lengths of a list.
+#[no_mangle]
+pub extern "C" fn panel_list_lengths(list: &[u32; live::WORDS], lengths: &mut [u64; 512])
+    ensures { λ r. ⌜ Lengths (now (list .entry)) (now (lengths .exit)) ⌝ }
+{
+    live::lengths(list, lengths);
 }
