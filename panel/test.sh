@@ -1,5 +1,6 @@
 #!/usr/bin/env bash
-# Builds the example and the guard test against the library, and runs both; where valgrind is at hand, also counts.sh. Usage: panel/test.sh [LIBRARY]
+# Builds the examples, the guard test and the test of lists against the library, and runs them; where valgrind is at hand, also counts.sh.
+# Usage: panel/test.sh [LIBRARY]
 # LIBRARY is target/staticlib/libpanel.a of the repository if not given. Products go to target/panel.
 set -eu
 root=$(cd "$(dirname "$0")/.." && pwd)
@@ -12,8 +13,11 @@ fi
 made=target/panel
 mkdir -p "$made"
 
-gcc -O2 -Wall -Wextra -Werror panel/example.c "$lib" -o $made/example
+for example in example gates; do
+    gcc -O2 -Wall -Wextra -Werror panel/$example.c "$lib" -o $made/$example
+done
 gcc -O2 -Wall -Wextra -Werror -Ipanel panel/guard/*.c "$lib" -o $made/guard
+gcc -O2 -Wall -Wextra -Werror -Ipanel -Ipanel/guard panel/lists.c panel/guard/{cases,count,draw,pages,rows}.c "$lib" -o $made/lists
 
 # The header from C++: names must link as C's.
 cat > $made/header.cc <<'END'
@@ -24,24 +28,35 @@ int main()
     panel_checked c = panel_check(nullptr, 0, nullptr, 0);
     panel_printed m = panel_measure(nullptr, 0, nullptr, 0);
     panel_printed p = panel_print(nullptr, 0, nullptr, 0, nullptr, 0, nullptr, 0);
-    return !(c.number == 0 && m.number == 14 && p.number == 14);
+    static panel_list list;
+    uint64_t lengths[PANEL_MOST_PIECES];
+    panel_list_empty(&list);
+    panel_changed j = panel_list_join(&list, 1, nullptr, 0, nullptr, 0);
+    panel_changed l = panel_list_leave(&list, 1);
+    panel_list_lengths(&list, lengths);
+    return !(c.number == 0 && m.number == 14 && p.number == 14 && j.number == 14 && l.number == 20 && lengths[0] == 0);
 }
 END
 g++ -O2 -Wall -Wextra -Werror -pedantic -Ipanel $made/header.cc "$lib" -o $made/header
 $made/header
 echo "header: builds and links from C++"
 
-$made/example > $made/example.out
-cmp panel/example.out $made/example.out
-echo "example: output as stored"
+for example in example gates; do
+    $made/$example > $made/$example.out
+    cmp panel/$example.out $made/$example.out
+    echo "$example: output as stored"
+done
 
 if command -v valgrind > /dev/null; then
-    valgrind --error-exitcode=1 -q $made/example > $made/example.valgrind.out
-    cmp panel/example.out $made/example.valgrind.out
-    echo "example: no error under valgrind"
+    for example in example gates; do
+        valgrind --error-exitcode=1 -q $made/$example > $made/$example.valgrind.out
+        cmp panel/$example.out $made/$example.valgrind.out
+        echo "$example: no error under valgrind"
+    done
     panel/counts.sh "$lib"
 else
-    echo "example: valgrind not found, not run under it; instructions not counted"
+    echo "examples: valgrind not found, not run under it; instructions not counted"
 fi
 
 $made/guard
+$made/lists

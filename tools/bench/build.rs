@@ -1,5 +1,5 @@
-//! Compiles calls.c and links it with the library named by PANEL, by default `target/staticlib/libpanel.a` of the repository, as many bytes further
-//! behind as PAD says. Where {fmt} is installed, calls_fmt.cpp is compiled and linked too, and `has_fmt` is set.
+//! Compiles calls.c and calls_lists.c and links them with the library named by PANEL, by default `target/staticlib/libpanel.a` of the repository, as many
+//! bytes further behind as PAD says. Where {fmt} is installed, calls_fmt.cpp is compiled and linked too, and `has_fmt` is set.
 
 use std::path::{Path, PathBuf};
 use std::process::{Command, Stdio};
@@ -14,17 +14,23 @@ fn main() {
     };
     assert!(fs::metadata(&library).is_ok(), "{}: no such library; PANEL names it", library.display());
     let folder = PathBuf::from(env::var_os("OUT_DIR").expect("set by cargo"));
-    let object = folder.join("calls.o");
-    let compiled = Command::new("gcc")
-        .args(["-O2", "-Wall", "-Wextra", "-Werror", "-Wno-format-security", "-c", "calls.c", "-I"])
-        .arg(&header)
-        .arg("-o")
-        .arg(&object)
-        .status();
-    assert!(compiled.is_ok_and(|status| status.success()), "gcc failed on calls.c");
+    let [object, of_lists] = ["calls", "calls_lists"].map(|name| {
+        let object = folder.join(name).with_extension("o");
+        let compiled = Command::new("gcc")
+            .args(["-O2", "-Wall", "-Wextra", "-Werror", "-Wno-format-security", "-c", &format!("{name}.c"), "-I"])
+            .arg(&header)
+            .arg("-o")
+            .arg(&object)
+            .status();
+        assert!(compiled.is_ok_and(|status| status.success()), "gcc failed on {name}.c");
+        object
+    });
     // A file that is missing makes this run again, so that {fmt} is seen once it is installed.
     let in_fmt = PathBuf::from("/usr/include/fmt/format.h");
-    for file in [&here.join("calls.c"), &here.join("calls_fmt.cpp"), &header.join("panel.h"), &library, &in_fmt] {
+    for source in ["calls.c", "calls_lists.c", "calls_fmt.cpp"] {
+        println!("cargo::rerun-if-changed={}", here.join(source).display());
+    }
+    for file in [&header.join("panel.h"), &library, &in_fmt] {
         println!("cargo::rerun-if-changed={}", file.display());
     }
     println!("cargo::rerun-if-env-changed=PANEL");
@@ -34,6 +40,8 @@ fn main() {
     // The linker leaves out what nothing names.
     println!("cargo::rustc-link-arg=-Wl,--undefined=bench_padding");
     println!("cargo::rustc-link-arg={}", library.display());
+    // Behind the library, so that it does not move it.
+    println!("cargo::rustc-link-arg={}", of_lists.display());
     println!("cargo::rustc-check-cfg=cfg(has_fmt)");
     if has_fmt(&folder) {
         let object = folder.join("calls_fmt.o");

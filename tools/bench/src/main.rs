@@ -1,9 +1,11 @@
 //! Times this library, the original, snprintf, {fmt} and Java on the same rows, and prints tables in Markdown.
 //!
-//! Arguments: FOLDER (of Bench.class; files of callgrind go there). Or `calls INDEX COUNT` to make calls on one row and nothing else; `times` for the
-//! times of this library alone, and `counts FOLDER` for its instructions, a row to a line; `pair` asks for them.
+//! Arguments: FOLDER (of Bench.class; files of callgrind go there). Or `calls INDEX COUNT` to make calls on one row and nothing else, `list INDEX COUNT` on one
+//! live list; `lists FOLDER` for the table of live lists alone; `times` for the times of this library alone, and `counts FOLDER` for its instructions, a row to
+//! a line; `pair` asks for them.
 
 mod fmt;
+mod lists;
 mod others;
 mod panel;
 mod rows;
@@ -30,6 +32,13 @@ fn main() -> ExitCode {
             let Some(row) = all_rows().into_iter().nth(index) else { return usage() };
             std::hint::black_box(Panel::new(&row).run(count));
         }
+        ["list", index, count] => {
+            let (Ok(index), Ok(count)) = (index.parse(), count.parse()) else { return usage() };
+            if !lists::calls(index, count) {
+                return usage();
+            }
+        }
+        ["lists", folder] => lists_alone(Path::new(folder)),
         ["times"] => times_alone(),
         ["counts", folder] => counts_alone(Path::new(folder)),
         [folder] => tables(Path::new(folder)),
@@ -39,7 +48,9 @@ fn main() -> ExitCode {
 }
 
 fn usage() -> ExitCode {
-    eprintln!("arguments: FOLDER, or calls INDEX COUNT, or times, or counts FOLDER");
+    eprintln!(
+        "arguments: FOLDER, or calls INDEX COUNT, or list INDEX COUNT, or lists FOLDER, or times, or counts FOLDER"
+    );
     ExitCode::from(2)
 }
 
@@ -69,11 +80,20 @@ fn counts_alone(folder: &Path) {
     }
 }
 
+fn lists_alone(folder: &Path) {
+    let mut lists = lists::measure();
+    for _ in 1..ROUNDS {
+        lists.improve(lists::measure());
+    }
+    lists.table(folder);
+}
+
 fn tables(folder: &Path) {
     let (compared, series, in_turn) = (rows::compared(), rows::series(), rows::in_turn());
     let mut measured: Vec<Measured> = compared.iter().map(|row| measure(folder, row)).collect();
     let mut rising: Vec<Vec<f64>> = series.iter().map(measure_series).collect();
     let mut turns: Vec<[f64; 2]> = in_turn.iter().map(|rows| measure_in_turn(rows)).collect();
+    let mut lists = lists::measure();
     for _ in 1..ROUNDS {
         for (row, m) in compared.iter().zip(&mut measured) {
             m.improve(measure(folder, row));
@@ -84,6 +104,7 @@ fn tables(folder: &Path) {
         for (rows, least) in in_turn.iter().zip(&mut turns) {
             improve(least, &measure_in_turn(rows));
         }
+        lists.improve(lists::measure());
     }
     println!("{}\n", machine(&measured));
     println!("Nanoseconds for a call; instructions for a call of this library.\n");
@@ -103,6 +124,7 @@ fn tables(folder: &Path) {
     for (rows, [one, many]) in in_turn.iter().zip(turns) {
         println!("| {} | {one:.1} | {many:.1} | {:.1} |", rows[0].name, many - one);
     }
+    lists.table(folder);
 }
 
 fn improve(least: &mut [f64], again: &[f64]) {

@@ -92,16 +92,32 @@ pub fn instructions(folder: &Path, index: usize, call: Call) -> Option<u64> {
         Call::Print => "panel_print",
         Call::Measure => "panel_measure",
     };
+    let collected =
+        collected(folder, &format!("callgrind.{index}"), function, ["calls", &index.to_string()], COUNTED_CALLS)?;
+    Some(collected / COUNTED_CALLS)
+}
+
+/// The same for a function of the live list and the list of this index; what making the list takes is counted apart and taken off.
+pub fn list_instructions(folder: &Path, index: usize, function: &str) -> Option<u64> {
+    let name = format!("callgrind.{function}.{index}");
+    let of = |calls| collected(folder, &name, function, ["list", &index.to_string()], calls);
+    let before = of(0)?;
+    Some((of(COUNTED_CALLS)? - before) / COUNTED_CALLS)
+}
+
+/// The instructions within a function while this program runs with these arguments; the file of callgrind is left under the name.
+fn collected(folder: &Path, name: &str, function: &str, arguments: [&str; 2], calls: u64) -> Option<u64> {
     let output = Command::new("valgrind")
         .arg("--tool=callgrind")
         .arg(format!("--toggle-collect={function}"))
-        .arg(format!("--callgrind-out-file={}", folder.join(format!("callgrind.{index}")).display()))
+        .arg(format!("--callgrind-out-file={}", folder.join(name).display()))
         .arg(std::env::current_exe().ok()?)
-        .args(["calls", &index.to_string(), &COUNTED_CALLS.to_string()])
+        .args(arguments)
+        .arg(calls.to_string())
         .output()
         .ok()
         .filter(|output| output.status.success())?;
     let said = String::from_utf8_lossy(&output.stderr);
     let collected = said.lines().find_map(|line| line.split_once("Collected :"))?.1;
-    Some(collected.trim().parse::<u64>().ok()? / COUNTED_CALLS)
+    collected.trim().parse().ok()
 }

@@ -105,7 +105,7 @@ pub struct Row {
 }
 
 impl Row {
-    fn alone(name: &str, call: Call, format: String, values: Vec<Value>) -> Row {
+    pub fn alone(name: &str, call: Call, format: String, values: Vec<Value>) -> Row {
         Row { name: name.to_owned(), call, format, values, in_c: None }
     }
 

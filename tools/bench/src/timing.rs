@@ -23,6 +23,21 @@ pub fn least(subjects: &mut [Calls]) -> Vec<f64> {
     least
 }
 
+/// The least nanoseconds of one call in each of the parts that a subject times by itself.
+pub fn least_parts<const N: usize>(mut subject: impl FnMut(u64) -> [u64; N]) -> [f64; N] {
+    let mut calls = 1;
+    while u128::from(subject(calls).iter().sum::<u64>()) < REPETITION.as_nanos() {
+        calls *= 2;
+    }
+    let mut least = [f64::INFINITY; N];
+    for _ in 0..REPETITIONS {
+        for (least, ns) in least.iter_mut().zip(subject(calls)) {
+            *least = least.min(ns as f64 / calls as f64);
+        }
+    }
+    least
+}
+
 fn calls_for_repetition(subject: &mut Calls) -> u64 {
     let mut calls = 1;
     while time(subject, calls) < REPETITION {
