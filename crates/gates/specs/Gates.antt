@@ -67,10 +67,10 @@ unfoldable pub after : List ℕ → List Gate → Change → List Gate
 after s gates c = choose (eqb (answer s gates c .number) 0) (λ _. changed gates c) (λ _. gates)
 
 -- "From an empty list changed by these calls alone": the gates present after calls, and what these answer. The last call stands first.
-unfoldable pub present : List ℕ → List Change → List Gate
-present s [] = []
-present s (c ∷ calls) = after s (present s calls) c
+unfoldable pub presentAfter : List ℕ → List Change → List Gate
+presentAfter s [] = []
+presentAfter s (c ∷ calls) = after s (presentAfter s calls) c
 
 unfoldable pub answers : List ℕ → List Change → List Changed
 answers s [] = []
-answers s (c ∷ calls) = answer s (present s calls) c ∷ answers s calls
+answers s (c ∷ calls) = answer s (presentAfter s calls) c ∷ answers s calls

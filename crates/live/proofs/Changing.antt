@@ -32,7 +32,7 @@ unfolding after
 refuses s c m number place n h =
     record {
       answers = λ gates r. sym (h gates r);
-      leaves-gates = λ gates r. simp (h gates r, ne-eqb number 0 n) r;
+      gates-after = λ gates r. simp (h gates r, ne-eqb number 0 n) r;
       refusal = λ e. refl;
     }
 
@@ -43,7 +43,7 @@ unfolding after
 does s c m m′ h =
     record {
       answers = λ gates r. sym (h gates r .0);
-      leaves-gates = λ gates r. simp (h gates r .0) (h gates r .1);
+      gates-after = λ gates r. simp (h gates r .0) (h gates r .1);
       refusal = λ e. absurd (e refl);
     }
 

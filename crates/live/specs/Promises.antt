@@ -16,7 +16,7 @@ Emptied m = (s : List ℕ) → Represents s [] m
 -- as it was.
 pub record Changes (s : List ℕ) (c : Change) (m : List ℕ) (r : Changed) (m′ : List ℕ) : Type 0 where
   pub answers : (gates : List Gate) → Represents s gates m → r ≡ answer s gates c
-  pub leaves-gates : (gates : List Gate) → Represents s gates m → Represents s (after s gates c) m′
+  pub gates-after : (gates : List Gate) → Represents s gates m → Represents s (after s gates c) m′
   pub refusal : (r .number ≡ 0 → ⊥) → m′ ≡ m
 
 -- The lengths of memory that represents gates.
