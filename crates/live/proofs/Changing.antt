@@ -26,12 +26,12 @@ use Rattle.live.proofs.Joining.{holds-more}
 use Rattle.live.proofs.Leaving.{holds-less, same-rest}
 
 -- A call that is refused, whatever gates memory represents, leaves it as it was.
-pub refuses : (s : List ℕ) (c : Change) (m : List ℕ) (number place : ℕ) → (number ≡ 0 → ⊥)
-    → ((gates : List Gate) → Represents s gates m → answer s gates c ≡ refused number place) → Changes s c m (refused number place) m
+refuses : (s : List ℕ) (c : Change) (m : List ℕ) (number place : ℕ) → (number ≡ 0 → ⊥)
+    → ((gates : List Gate) → Represents s gates m → answer s gates c ≡ refused number place) → (a : Changed) → a ≡ refused number place → Changes s c m a m
 unfolding after
-refuses s c m number place n h =
+refuses s c m number place n h a e =
     record {
-      answers = λ gates r. sym (h gates r);
+      answers = λ gates r. e ∙ sym (h gates r);
       gates-after = λ gates r. simp (h gates r, ne-eqb number 0 n) r;
       refusal = λ e. refl;
     }
@@ -74,18 +74,18 @@ module _ (s : List ℕ) (m : List ℕ) (n count place : ℕ) (counted : count �
 module _ (s : List ℕ) (m : List ℕ) (n count place : ℕ) (counted : count ≡ min (countOf m) 128) (p : PlaceOf m count n place) where
   -- Joining.
   module _ (row : List ℕ) where
-    pub is-present : place < count → Changes s (joins n row) m (refused 19 0) m
+    pub is-present : place < count → (a : Changed) → a ≡ refused 19 0 → Changes s (joins n row) m a m
     unfolding answer
     is-present h = refuses s (joins n row) m 19 0 (λ e. omega arith) (λ gates r. simp (found s m n count place counted p gates r h))
 
-    pub is-full : count ≤ place → mostGates ≤ count → Changes s (joins n row) m (refused 21 0) m
+    pub is-full : count ≤ place → mostGates ≤ count → (a : Changed) → a ≡ refused 21 0 → Changes s (joins n row) m a m
     unfolding answer
     is-full h full =
         refuses s (joins n row) m 21 0 (λ e. omega arith)
         (λ gates r. simp (missing s m n count place counted p gates r h, le-leb mostGates (length gates) (omega (arith, as-many s m n count place counted p gates r))))
 
     pub is-unmeasured : count ≤ place → count < mostGates → (number at : ℕ) → measured s row ≡ O.Refused number at
-        → Changes s (joins n row) m (refused number at) m
+        → (a : Changed) → a ≡ refused number at → Changes s (joins n row) m a m
     unfolding answer
     is-unmeasured h few number at e =
         refuses s (joins n row) m number at (λ z. omega (arith, number-in-table (measuring s row) number at (ap ofOutcome e)))
@@ -117,7 +117,7 @@ module _ (s : List ℕ) (m : List ℕ) (n count place : ℕ) (counted : count �
             }
 
   -- Leaving.
-  pub is-absent : count ≤ place → Changes s (leaves n) m (refused 20 0) m
+  pub is-absent : count ≤ place → (a : Changed) → a ≡ refused 20 0 → Changes s (leaves n) m a m
   unfolding answer
   is-absent h = refuses s (leaves n) m 20 0 (λ e. omega arith) (λ gates r. simp (missing s m n count place counted p gates r h))
 

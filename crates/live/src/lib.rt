@@ -6,7 +6,7 @@ use outcomes::Outcome;
 ghost use mathlib.Core.Path.{_≡_};
 ghost use lib.ListN.{length};
 ghost use Prim.Native.Nat.{_+_, _≤_, _<_, min, max};
-ghost use Rattle.gates.specs.Gates.{joins, ifMeasured};
+ghost use Rattle.gates.specs.Gates.{joins, refused, ifMeasured};
 ghost use Rattle.live.specs.Lists.{countOf};
 ghost use Rattle.live.specs.Steps.{PlaceOf, lengthIn, Stored, raisedTo, TakenIn, columnLargest, TakenOutAt, TakenOut};
 ghost use Rattle.live.specs.Promises.{Emptied, Changes, Leaves, Lengths};
@@ -122,6 +122,16 @@ fn take_in(list: &mut [u32], count: usize, gate: u32, ends: &[u32], pieces: usiz
     list[0] = (count + 1) as u32;
 }
 
+// A refusal of the list's own.
+fn refusal(number: u8) -> Changed
+    ensures { λ r. ⌜ r ≡ refused number 0 ⌝ }
+{
+    Changed {
+        number: number as u64,
+        place: 0,
+    }
+}
+
 // What is answered where measuring refuses.
 fn refused_by(found: Outcome) -> Changed
     ensures { λ r. ⌜ r ≡ ifMeasured found ⌝ }
@@ -149,16 +159,10 @@ pub fn join<'a>(list: &mut [u32], gate: u32, fmt: &'a [u8], row: &'a [u8]) -> Ch
 {
     let count = count_of(list);
     if place_of(list, count, gate) < count {
-        return Changed {
-            number: refusals::GATE_PRESENT as u64,
-            place: 0,
-        };
+        return refusal(refusals::GATE_PRESENT);
     }
     if refusals::MOST_GATES <= count {
-        return Changed {
-            number: refusals::LIST_FULL as u64,
-            place: 0,
-        };
+        return refusal(refusals::LIST_FULL);
     }
     let mut text = [0u8; 1];
     let mut ends = [0u32; 512];
@@ -230,10 +234,7 @@ pub fn leave(list: &mut [u32], gate: u32) -> Changed
     let count = count_of(list);
     let place = place_of(list, count, gate);
     if count <= place {
-        return Changed {
-            number: refusals::GATE_ABSENT as u64,
-            place: 0,
-        };
+        return refusal(refusals::GATE_ABSENT);
     }
     let last = count - 1;
     take_out(list, place, last);

@@ -1,12 +1,10 @@
 -- `live::join` meets its contract. Assumes nothing.
-use mathlib.Core.Path.{sym, ap, subst, _∙_}
 use Prim.Native.Nat.{ℕ}
+use mathlib.Core.Path.{sym, ap, _∙_}
 use native.Mathlib.Omega.{arith}
 use lib.ListN.{length-replicate}
 use Rattle.rows.proofs.Rows.{AllBytes}
-use Rattle.gates.specs.Gates.{joins, ifMeasured}
-use Rattle.gates.specs.declared.Changed.{Changed}
-use Rattle.live.specs.Promises.{Changes}
+use Rattle.gates.specs.Gates.{ifMeasured}
 use Rattle.live.proofs.Changing.{is-present, is-full, is-unmeasured, is-joined}
 use Rattle.live.proofs.Ends.{length-is}
 use borrow.Author.Needs.{needs}
@@ -19,31 +17,31 @@ count-of-requires c κs = search needs
 place-of-requires : tie.Need-place-of-requires
 place-of-requires c κs = search needs
 
-cast-t16 : tie.Need-cast-t16
-cast-t16 c = search needs
+refusal-requires : tie.Need-refusal-requires
+refusal-requires c κs = search needs
 
 same-length : tie.Need-same-length
 same-length c = search needs
 
 returns : tie.Need-returns
 returns c =
-    let a = c .before .before .before .before .before .before .before .before .args in
-    let p = c .before .place-of in
-    let n = c .before .before .before .count-of in
-    is-present (a .fmt .now) (a .list .now) (a .gate) (n .result) (p .result) (n .ensures) (p .ensures) (a .row .now) (c .if1 .taken)
+    let a = c .before .before .before .before .before .before .before .before .before .args in
+    let p = c .before .before .place-of in
+    let n = c .before .before .before .before .count-of in
+    is-present (a .fmt .now) (a .list .now) (a .gate) (n .result) (p .result) (n .ensures) (p .ensures) (a .row .now) (c .before .if1 .taken) (c .refusal .result) (c .refusal .ensures)
 
-cast-t17 : tie.Need-cast-t17
-cast-t17 c = search needs
+refusal-requires-2 : tie.Need-refusal-requires-2
+refusal-requires-2 c κs = search needs
 
 same-length-2 : tie.Need-same-length-2
 same-length-2 c = search needs
 
 returns-2 : tie.Need-returns-2
 returns-2 c =
-    let a = c .before .before .before .before .before .before .before .before .before .args in
-    let p = c .before .before .place-of in
-    let n = c .before .before .before .before .count-of in
-    is-full (a .fmt .now) (a .list .now) (a .gate) (n .result) (p .result) (n .ensures) (p .ensures) (a .row .now) (c .before .if1 .left) (c .if2 .taken)
+    let a = c .before .before .before .before .before .before .before .before .before .before .args in
+    let p = c .before .before .before .place-of in
+    let n = c .before .before .before .before .before .count-of in
+    is-full (a .fmt .now) (a .list .now) (a .gate) (n .result) (p .result) (n .ensures) (p .ensures) (a .row .now) (c .before .before .if1 .left) (c .before .if2 .taken) (c .refusal2 .result) (c .refusal2 .ensures)
 
 array-borrow-prefix-text : tie.Need-array-borrow-prefix-text
 array-borrow-prefix-text c = search needs
@@ -76,9 +74,8 @@ returns-3 c =
     let n = c .before .before .before .before .before .before .before .before .before .before .before .before .count-of in
     let t = c .before .enum-told .given in
     let e = c .before .before .before .before .before .stage .ensures .0 in
-    let x = is-unmeasured (a .fmt .now) (a .list .now) (a .gate) (n .result) (p .result) (n .ensures) (p .ensures) (a .row .now) (c .before .before .before .before .before .before .before .before .before .if1 .left) (omega (arith, c .before .before .before .before .before .before .before .before .if2 .left)) (t .0 .0) (t .0 .1 .0) (sym e ∙ t .1) in
-    subst (λ (r : Changed). Changes (a .fmt .now) (joins (a .gate) (a .row .now)) (a .list .now) r (a .list .now))
-    (sym (c .refused-by .ensures ∙ ap ifMeasured (t .1))) x
+    is-unmeasured (a .fmt .now) (a .list .now) (a .gate) (n .result) (p .result) (n .ensures) (p .ensures) (a .row .now) (c .before .before .before .before .before .before .before .before .before .if1 .left) (omega (arith, c .before .before .before .before .before .before .before .before .if2 .left)) (t .0 .0) (t .0 .1 .0) (sym e ∙ t .1)
+    (c .refused-by .result) (c .refused-by .ensures ∙ ap ifMeasured (t .1))
 
 slice-aggregate-take-in : tie.Need-slice-aggregate-take-in
 slice-aggregate-take-in c = search needs
@@ -107,10 +104,10 @@ join-spec =
     (tie.spec
     count-of-requires
     place-of-requires
-    cast-t16
+    refusal-requires
     same-length
     returns
-    cast-t17
+    refusal-requires-2
     same-length-2
     returns-2
     array-borrow-prefix-text

@@ -12,18 +12,18 @@ count-of-requires c κs = search needs
 place-of-requires : tie.Need-place-of-requires
 place-of-requires c κs = search needs
 
-cast-t11 : tie.Need-cast-t11
-cast-t11 c = search needs
+refusal-requires : tie.Need-refusal-requires
+refusal-requires c κs = search needs
 
 same-length : tie.Need-same-length
 same-length c = search needs
 
 returns : tie.Need-returns
 returns c =
-    let a = c .before .before .before .before .before .before .args in
-    let p = c .before .place-of in
-    let n = c .before .before .before .count-of in
-    λ s. is-absent s (a .list .now) (a .gate) (n .result) (p .result) (n .ensures) (p .ensures) (c .if1 .taken)
+    let a = c .before .before .before .before .before .before .before .args in
+    let p = c .before .before .place-of in
+    let n = c .before .before .before .before .count-of in
+    λ s. is-absent s (a .list .now) (a .gate) (n .result) (p .result) (n .ensures) (p .ensures) (c .before .if1 .taken) (c .refusal .result) (c .refusal .ensures)
 
 sub-last : tie.Need-sub-last
 sub-last c = search needs
@@ -74,7 +74,7 @@ leave-spec =
     (tie.spec
     count-of-requires
     place-of-requires
-    cast-t11
+    refusal-requires
     same-length
     returns
     sub-last
