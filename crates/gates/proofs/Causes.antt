@@ -38,7 +38,7 @@ module _ (s : List ℕ) (gates : List Gate) where
     where
       go : isPresent n gates ≡ false → length gates < mostGates → (o : Outcome) → measured s row ≡ o → Judged s gates (joins n row) (ifMeasured o)
       go h few (O.Accepted m k) e = accepted refl
-      go h few (O.Refused m p) e = caused (K.unmeasured h few (exactly (measuring s row) m p .0 (ap ofOutcome e))) refl
+      go h few (O.Refused m p) e = caused (K.unmeasured h (omega arith) (exactly (measuring s row) m p .0 (ap ofOutcome e))) refl
   judged (leaves n) =
       by-test (Judged s gates (leaves n)) (isPresent n gates) _ _ (λ h. accepted refl) (λ h. caused (K.absent h) refl)
 
@@ -47,7 +47,8 @@ module _ (s : List ℕ) (gates : List Gate) where
   refuses (K.present h) = simp h
   refuses (K.absent h) = simp h
   refuses (K.full h full) = simp (h, le-leb mostGates (length gates) full)
-  refuses (K.unmeasured {row = row} {number} {place} h few x) = simp (h, lt-leb mostGates (length gates) few) (of-measured (measured s row) (exactly (measuring s row) number place .1 x))
+  refuses (K.unmeasured {row = row} {number} {place} h few x) =
+      simp (h, lt-leb mostGates (length gates) few) (of-measured (measured s row) (exactly (measuring s row) number place .1 x))
     where
       of-measured : (o : Outcome) → ofOutcome o ≡ some (record { number = number; place = place }) → ifMeasured o ≡ refused number place
       of-measured (O.Accepted m k) e = absurd (let z : _≡_ {A = ℕ} 0 1 = cc in omega arith)

@@ -82,7 +82,10 @@ module _ (s : List ℕ) (m : List ℕ) (n count place : ℕ) (counted : count �
     unfolding answer
     is-full h full =
         refuses s (joins n row) m 21 0 (λ e. omega arith)
-        (λ gates r. simp (missing s m n count place counted p gates r h, le-leb mostGates (length gates) (omega (arith, as-many s m n count place counted p gates r))))
+        (λ gates r. simp (
+          missing s m n count place counted p gates r h,
+          le-leb mostGates (length gates) (omega (arith, as-many s m n count place counted p gates r)),
+        ))
 
     pub is-unmeasured : count ≤ place → count < mostGates → (number at : ℕ) → measured s row ≡ O.Refused number at
         → (a : Changed) → a ≡ refused number at → Changes s (joins n row) m a m

@@ -43,9 +43,11 @@ nth-low : (ts : List (List ℕ)) (e : List ℕ) (k : ℕ) → length ts ≤ leng
 unfolding laid
 nth-low ts e k h j =
     let low = map (λ n. n % 4294967296) (endsFrom 0 ts) in
-    let in-low : k < length (take (length e) low) = omega (arith, length-take (length e) low, length-map (endsFrom 0 ts) (λ n. n % 4294967296), ends-length 0 ts) in
+    let in-low : k < length (take (length e) low) =
+    omega (arith, length-take (length e) low, length-map (endsFrom 0 ts) (λ n. n % 4294967296), ends-length 0 ts) in
     List·getD-append (take (length e) low) _ 0 k in-low ∙ getD-take (length e) low k 0 (omega arith)
-    ∙ List·getD-map (λ n. n % 4294967296) (endsFrom 0 ts) k 0 ∙ ap (λ (n : ℕ). n % 4294967296) (nth-end 0 ts k j ∙ zero-add (length (joined (take (suc k) ts))))
+    ∙ List·getD-map (λ n. n % 4294967296) (endsFrom 0 ts) k 0
+    ∙ ap (λ (n : ℕ). n % 4294967296) (nth-end 0 ts k j ∙ zero-add (length (joined (take (suc k) ts))))
 
 module _ (s row : List ℕ) (n pieces : ℕ) (a : measured s row ≡ Accepted n pieces) (bytes : AllBytes row) {d e out ends : List ℕ} (room : length e ≡ mostPieces)
     (w : Staged s row d e out ends) where

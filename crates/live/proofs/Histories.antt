@@ -21,7 +21,8 @@ pub all-answers : (s : List ℕ) {calls : List Change} {given : List Changed} {m
 unfolding answers
 all-answers s (begun e) = refl
 all-answers s (called {calls = calls} {answers = given} {c = c} {r = r} h x) =
-    ap (λ (a : Changed). a ∷ given) (x .answers (presentAfter s calls) (represents s h)) ∙ ap (λ (l : List Changed). answer s (presentAfter s calls) c ∷ l) (all-answers s h)
+    ap (λ (a : Changed). a ∷ given) (x .answers (presentAfter s calls) (represents s h))
+    ∙ ap (λ (l : List Changed). answer s (presentAfter s calls) c ∷ l) (all-answers s h)
 
 -- The 512 lengths are those worked out afresh from the gates present.
 pub all-lengths : (s : List ℕ) {calls : List Change} {given : List Changed} {m : List ℕ} (out : List ℕ) → History s calls given m → Lengths m out

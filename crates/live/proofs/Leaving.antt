@@ -70,7 +70,8 @@ module _ (s : List ℕ) (gates : List Gate) (m M : List ℕ) (place last : ℕ) 
   numbers =
       by-place (λ i. numberAt end i ≡ gateAt rest i .number)
       (λ l. getD-set-other (set M (1 + place) (numberAt M last)) 0 (1 + place) last 0 (λ e. omega arith)
-      ∙ getD-set-same M (1 + place) (numberAt M last) 0 (omega (arith, w .size, h .few)) ∙ w .numbers (1 + last) (omega (arith, h .few)) ∙ h .numbers last (omega arith)
+      ∙ getD-set-same M (1 + place) (numberAt M last) 0 (omega (arith, w .size, h .few)) ∙ w .numbers (1 + last) (omega (arith, h .few))
+      ∙ h .numbers last (omega arith)
       ∙ ap (λ (x : Gate). x .number) (sym (last-gate l)))
       (λ i l n. stays (1 + i) (λ e. omega arith) (λ e. n (omega arith)) ∙ w .numbers (1 + i) (omega (arith, h .few)) ∙ h .numbers i (omega arith)
       ∙ ap (λ (x : Gate). x .number) (sym (kept-gate i l n)))
@@ -88,7 +89,8 @@ module _ (s : List ℕ) (gates : List Gate) (m M : List ℕ) (place last : ℕ) 
   longest k b =
       let column : columnLargest M last k ≡ largest s k rest =
       column-same M end k last (λ i l. sym (stays (641 + 512 * i + k) (λ e. omega arith) (λ e. omega (arith, h .few))))
-      ∙ column-is s k end rest (λ i l. lengths i k l b) last (omega (arith, less)) ∙ ap (largest s k) (ap (λ (n : ℕ). take n rest) (sym less) ∙ take-length rest) in
+      ∙ column-is s k end rest (λ i l. lengths i k l b) last (omega (arith, less))
+      ∙ ap (largest s k) (ap (λ (n : ℕ). take n rest) (sym less) ∙ take-length rest) in
       stays (129 + k) (λ e. omega arith) (λ e. omega (arith, h .few)) ∙ w .lower k b
       ∙ rw (column, h .lengths place k there b, h .longest k b)
       (lowered-is (pieceLength s (gateAt gates place .row) k) (largest s k gates) (largest s k rest) (same-largest s k (same-taken place gates there)))

@@ -51,7 +51,8 @@ module _ (m : List ℕ) (place last k : ℕ) (size : length m ≡ 66177) (p : pl
         moved = other (641 + 512 * place + k) (λ j. omega arith) ∙ moved;
         lower =
             getD-set-same m₁ (129 + k) r 0 (simp length-set (omega arith)) ∙ f
-            ∙ simp (ne-eqb (lengthAt m place k) 0 z, le-ltb (lengthAt m place k) (longestAt m k) (omega (arith, top-kept))) (ap (min (lengthAt m place k)) (column-same m₁ (set m₁ (129 + k) r) k last (λ i h. sym (other (641 + 512 * i + k) (λ j. omega arith)))));
+            ∙ simp (ne-eqb (lengthAt m place k) 0 z, le-ltb (lengthAt m place k) (longestAt m k) (omega (arith, top-kept)))
+            (ap (min (lengthAt m place k)) (column-same m₁ (set m₁ (129 + k) r) k last (λ i h. sym (other (641 + 512 * i + k) (λ j. omega arith)))));
         kept = λ i a b. other i a ∙ getD-set-other m (641 + 512 * place + k) i (lengthAt m last k) 0 b;
         size = length-set m₁ (129 + k) r ∙ length-set m (641 + 512 * place + k) (lengthAt m last k);
       }

@@ -41,8 +41,11 @@ loop-less c = search needs
 
 loop-again : tie.Need-loop-again Inv-loop μ-loop
 loop-again c =
-    let l = c .before .loop in
-    (omega arith, length-set (l .list) _ _ ∙ l .inv .1, stored-more 129 (l .k) 0 (λ _. 0) _ (l .list) (l .inv .2) (omega (arith, l .inv .1, l .inv .2 .size)) refl)
+    let l = c .before .loop in (
+      omega arith,
+      length-set (l .list) _ _ ∙ l .inv .1,
+      stored-more 129 (l .k) 0 (λ _. 0) _ (l .list) (l .inv .2) (omega (arith, l .inv .1, l .inv .2 .size)) refl,
+    )
 
 same-length : tie.Need-same-length Inv-loop μ-loop
 same-length c = c .before .loop .inv .1 ∙ sym (c .before .before .pre)

@@ -11,6 +11,22 @@ use borrow.Author.Needs.{needs}
 use Rattle.live.proofs.join.Statement.{statement}
 use Rattle.live.proofs.join.Tie as tie
 
+-- the entry and the count, behind the place; the place, behind the pass
+abbrev start : tie.After-place-of → tie.Start
+start p = p .before .before .before .before .before .before .before
+
+abbrev row-bytes : tie.After-place-of → tie.After-shared-slice-known2
+row-bytes p = p .before .before .before .before
+
+abbrev counted : tie.After-place-of → tie.After-count-of
+counted p = p .before .before
+
+abbrev tested : tie.After-stage → tie.Else2
+tested g = g .before .before .before
+
+abbrev placed : tie.After-stage → tie.After-place-of
+placed g = tested g .before .before
+
 count-of-requires : tie.Need-count-of-requires
 count-of-requires c κs = search needs
 
@@ -25,10 +41,11 @@ same-length c = search needs
 
 returns : tie.Need-returns
 returns c =
-    let a = c .before .before .before .before .before .before .before .before .before .args in
-    let p = c .before .before .place-of in
-    let n = c .before .before .before .before .count-of in
-    is-present (a .fmt .now) (a .list .now) (a .gate) (n .result) (p .result) (n .ensures) (p .ensures) (a .row .now) (c .before .if1 .taken) (c .refusal .result) (c .refusal .ensures)
+    let p = c .before .before in
+    let a = start p .args in
+    let n = counted p .count-of in
+    is-present (a .fmt .now) (a .list .now) (a .gate) (n .result) (p .place-of .result) (n .ensures) (p .place-of .ensures) (a .row .now)
+    (omega (arith, c .before .if1 .taken)) (c .refusal .result) (c .refusal .ensures)
 
 refusal-requires-2 : tie.Need-refusal-requires-2
 refusal-requires-2 c κs = search needs
@@ -38,10 +55,11 @@ same-length-2 c = search needs
 
 returns-2 : tie.Need-returns-2
 returns-2 c =
-    let a = c .before .before .before .before .before .before .before .before .before .before .args in
-    let p = c .before .before .before .place-of in
-    let n = c .before .before .before .before .before .count-of in
-    is-full (a .fmt .now) (a .list .now) (a .gate) (n .result) (p .result) (n .ensures) (p .ensures) (a .row .now) (c .before .before .if1 .left) (c .before .if2 .taken) (c .refusal2 .result) (c .refusal2 .ensures)
+    let p = c .before .before .before in
+    let a = start p .args in
+    let n = counted p .count-of in
+    is-full (a .fmt .now) (a .list .now) (a .gate) (n .result) (p .place-of .result) (n .ensures) (p .place-of .ensures) (a .row .now)
+    (omega (arith, c .before .before .if1 .left)) (c .before .if2 .taken) (c .refusal2 .result) (c .refusal2 .ensures)
 
 array-borrow-prefix-text : tie.Need-array-borrow-prefix-text
 array-borrow-prefix-text c = search needs
@@ -69,12 +87,13 @@ same-length-3 c = search needs
 
 returns-3 : tie.Need-returns-3
 returns-3 c =
-    let a = c .before .before .before .before .before .before .before .before .before .before .before .before .before .before .before .before .before .args in
-    let p = c .before .before .before .before .before .before .before .before .before .before .place-of in
-    let n = c .before .before .before .before .before .before .before .before .before .before .before .before .count-of in
+    let g = c .before .before .before .before .before in
     let t = c .before .enum-told .given in
-    let e = c .before .before .before .before .before .stage .ensures .0 in
-    is-unmeasured (a .fmt .now) (a .list .now) (a .gate) (n .result) (p .result) (n .ensures) (p .ensures) (a .row .now) (c .before .before .before .before .before .before .before .before .before .if1 .left) (omega (arith, c .before .before .before .before .before .before .before .before .if2 .left)) (t .0 .0) (t .0 .1 .0) (sym e ∙ t .1)
+    let p = placed g in
+    let a = start p .args in
+    let n = counted p .count-of in
+    is-unmeasured (a .fmt .now) (a .list .now) (a .gate) (n .result) (p .place-of .result) (n .ensures) (p .place-of .ensures) (a .row .now)
+    (omega (arith, tested g .before .if1 .left)) (omega (arith, tested g .if2 .left)) (t .0 .0) (t .0 .1 .0) (sym (g .stage .ensures .0) ∙ t .1)
     (c .refused-by .result) (c .refused-by .ensures ∙ ap ifMeasured (t .1))
 
 slice-aggregate-take-in : tie.Need-slice-aggregate-take-in
@@ -88,15 +107,17 @@ same-length-4 c = search needs
 
 returns-4 : tie.Need-returns-4
 returns-4 c =
-    let a = c .before .before .before .before .before .before .before .before .before .before .before .before .before .before .before .before .before .before .before .before .before .before .args in
-    let p = c .before .before .before .before .before .before .before .before .before .before .before .before .before .before .before .place-of in
-    let n = c .before .before .before .before .before .before .before .before .before .before .before .before .before .before .before .before .before .count-of in
-    let t = c .before .before .before .before .before .before .found .given in
-    let g = c .before .before .before .before .before .before .before .before .before .before .stage in
-    let e = sym (g .ensures .0) ∙ t .1 in
-    let bytes : AllBytes (a .row .now) = λ i. omega (arith, c .before .before .before .before .before .before .before .before .before .before .before .before .before .before .before .before .before .before .before .shared-slice-known2 .given i) in
-    is-joined (a .fmt .now) (a .list .now) (a .gate) (n .result) (p .result) (n .ensures) (p .ensures) (a .row .now) (c .before .before .before .before .before .before .before .before .before .before .before .before .before .before .if1 .left) (omega (arith, c .before .before .before .before .before .before .before .before .before .before .before .before .before .if2 .left)) (t .0 .0) (t .0 .1 .0) e _ _ (c .before .before .take-in .ensures)
-    (length-is (a .fmt .now) (a .row .now) (t .0 .0) (t .0 .1 .0) e bytes (length-replicate {A = ℕ} 512 0) (g .ensures .1))
+    let found = c .before .before .before .before .before .before in
+    let g = found .before .before .before .before in
+    let t = found .found .given in
+    let p = placed g in
+    let a = start p .args in
+    let n = counted p .count-of in
+    let e = sym (g .stage .ensures .0) ∙ t .1 in
+    let bytes : AllBytes (a .row .now) = λ i. omega (arith, row-bytes p .shared-slice-known2 .given i) in
+    is-joined (a .fmt .now) (a .list .now) (a .gate) (n .result) (p .place-of .result) (n .ensures) (p .place-of .ensures) (a .row .now)
+    (omega (arith, tested g .before .if1 .left)) (omega (arith, tested g .if2 .left)) (t .0 .0) (t .0 .1 .0) e _ _ (c .before .before .take-in .ensures)
+    (length-is (a .fmt .now) (a .row .now) (t .0 .0) (t .0 .1 .0) e bytes (length-replicate {A = ℕ} 512 0) (g .stage .ensures .1))
 
 pub join-spec : {M : Type 1} → statement M
 join-spec =

@@ -6,6 +6,16 @@ use borrow.Author.Needs.{needs}
 use Rattle.live.proofs.leave.Statement.{statement}
 use Rattle.live.proofs.leave.Tie as tie
 
+-- the entry and the count, behind the place; the place, behind the lengths taken out
+abbrev start : tie.After-place-of → tie.Start
+start p = p .before .before .before .before .before
+
+abbrev counted : tie.After-place-of → tie.After-count-of
+counted p = p .before .before
+
+abbrev tested : tie.After-take-out → tie.Else1
+tested o = o .before .before
+
 count-of-requires : tie.Need-count-of-requires
 count-of-requires c κs = search needs
 
@@ -20,10 +30,11 @@ same-length c = search needs
 
 returns : tie.Need-returns
 returns c =
-    let a = c .before .before .before .before .before .before .before .args in
-    let p = c .before .before .place-of in
-    let n = c .before .before .before .before .count-of in
-    λ s. is-absent s (a .list .now) (a .gate) (n .result) (p .result) (n .ensures) (p .ensures) (c .before .if1 .taken) (c .refusal .result) (c .refusal .ensures)
+    let p = c .before .before in
+    let a = start p .args in
+    let n = counted p .count-of in
+    λ s. is-absent s (a .list .now) (a .gate) (n .result) (p .place-of .result) (n .ensures) (p .place-of .ensures)
+    (c .before .if1 .taken) (c .refusal .result) (c .refusal .ensures)
 
 sub-last : tie.Need-sub-last
 sub-last c = search needs
@@ -53,20 +64,20 @@ cast-list : tie.Need-cast-list
 cast-list c = search needs
 
 slice-write-list-2 : tie.Need-slice-write-list-2
-slice-write-list-2 c = simp length-set (omega (arith, c .before .before .before .take-out .ensures .size, c .before .before .before .before .before .before .before .before .before .before .before .pre))
+slice-write-list-2 c = let o = c .before .before .before in simp length-set (omega (arith, o .take-out .ensures .size, start (tested o .before) .pre))
 
 same-length-2 : tie.Need-same-length-2
 same-length-2 c = search needs
 
 returns-2 : tie.Need-returns-2
 returns-2 c =
-    let s = c .before .before .before .before .before .before .before .before .before .before .before in
-    let a = s .args in
-    let p = c .before .before .before .before .before .before .place-of in
-    let n = c .before .before .before .before .before .before .before .before .count-of in
-    let h = c .before .before .before .before .before .if1 .left in
-    λ f. is-left f (a .list .now) (a .gate) (n .result) (p .result) (n .ensures) (p .ensures) (omega arith) (s .pre) _ (omega arith) _
-    (c .before .before .before .take-out .ensures)
+    let o = c .before .before .before in
+    let p = tested o .before in
+    let a = start p .args in
+    let n = counted p .count-of in
+    let h = tested o .if1 .left in
+    λ s. is-left s (a .list .now) (a .gate) (n .result) (p .place-of .result) (n .ensures) (p .place-of .ensures)
+    (omega arith) (start p .pre) _ (omega arith) _ (o .take-out .ensures)
 
 pub leave-spec : {M : Type 1} → statement M
 leave-spec =

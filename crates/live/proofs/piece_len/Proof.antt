@@ -44,7 +44,8 @@ returns-3 c =
     let a = c .before .before .before .before .before .before .args in
     let r : w .result < 2 ^ 32 = search needs in
     let b : getD (a .ends .now) (a .k - 1) 0 < 2 ^ 32 = omega (arith, c .before .shared-slice-known4 .given (a .k - 1)) in
-    length-next (a .ends .now) (a .pieces) (a .k) (w .result) (c .before .before .before .if2 .left) (omega (arith, c .before .before .before .before .if1 .left))
+    length-next (a .ends .now) (a .pieces) (a .k) (w .result) (c .before .before .before .if2 .left)
+    (omega (arith, c .before .before .before .before .if1 .left))
     r b (w .ensures)
 
 pub piece-len-spec : {M : Type 1} → statement M

@@ -7,6 +7,13 @@ use borrow.Author.Needs.{needs}
 use Rattle.live.proofs.take_in.Statement.{statement}
 use Rattle.live.proofs.take_in.Tie as tie
 
+-- the entry, behind the lengths written
+abbrev start : tie.After-write-lengths → tie.Start
+start w = w .before .before .before .before
+
+abbrev written : tie.After-slice-known3 → tie.After-write-lengths
+written c = c .before .before .before .before .before .before
+
 mul-at : tie.Need-mul-at
 mul-at c = search needs
 
@@ -35,16 +42,20 @@ cast-list : tie.Need-cast-list
 cast-list c = search needs
 
 slice-write-list-2 : tie.Need-slice-write-list-2
-slice-write-list-2 c = simp length-set (omega (arith, c .before .before .raise .ensures .size, c .before .before .before .before .before .before .write-lengths .ensures .size, c .before .before .before .before .before .before .before .before .before .before .pre))
+slice-write-list-2 c =
+    let w = written c in
+    simp length-set (omega (arith, c .before .before .raise .ensures .size, w .write-lengths .ensures .size, start w .pre))
 
 same-length : tie.Need-same-length
-same-length c = simp length-set (c .before .before .raise .ensures .size ∙ c .before .before .before .before .before .before .write-lengths .ensures .size)
+same-length c = simp length-set (c .before .before .raise .ensures .size ∙ written c .write-lengths .ensures .size)
 
 returns : tie.Need-returns
 returns c =
-    let s = c .before .before .before .before .before .before .before .before .before .before in
+    let w = written c in
+    let s = start w in
     let a = s .args in
-    taken-in (a .list .now) _ _ (a .count) (a .gate) (a .ends .now) (a .pieces) (s .pre .0) (s .pre .2) (c .before .before .before .before .before .before .write-lengths .ensures) (c .before .before .raise .ensures)
+    taken-in (a .list .now) _ _ (a .count) (a .gate) (a .ends .now) (a .pieces) (s .pre .0) (s .pre .2) (w .write-lengths .ensures)
+    (c .before .before .raise .ensures)
 
 pub take-in-spec : {M : Type 1} → statement M
 take-in-spec =

@@ -34,7 +34,8 @@ loop-again c =
     let s = c .before .before .before .before .before .before .before in
     let l = c .before .before .before .before .before .loop in
     let a = s .args in
-    (omega arith, out-more (l .k) (a .place) (a .last) (a .list .now) (l .list) _ (s .pre .1) (s .pre .2) (omega arith) (l .inv .1) (c .before .before .take-out-at .ensures))
+    let o = c .before .before .take-out-at .ensures in
+    (omega arith, out-more (l .k) (a .place) (a .last) (a .list .now) (l .list) _ (s .pre .1) (s .pre .2) (omega arith) (l .inv .1) o)
 
 same-length : tie.Need-same-length Inv-loop μ-loop
 same-length c = c .before .loop .inv .1 .size

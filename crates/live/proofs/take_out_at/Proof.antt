@@ -6,6 +6,10 @@ use borrow.Author.Needs.{needs}
 use Rattle.live.proofs.take_out_at.Statement.{statement}
 use Rattle.live.proofs.take_out_at.Tie as tie
 
+-- the entry, behind the store
+abbrev start : tie.After-slice-known3 → tie.Start
+start s = s .before .before .before
+
 mul-at : tie.Need-mul-at
 mul-at c = search needs
 
@@ -47,7 +51,7 @@ same-length c = search needs
 
 returns : tie.Need-returns
 returns c =
-    let s = c .before .before .before .before in
+    let s = start (c .before) in
     let a = s .args in
     no-length (a .list .now) (a .place) (a .last) (a .k) (s .pre .0) (s .pre .1) (s .pre .2) (s .pre .3) (c .if1 .taken)
 
@@ -58,19 +62,20 @@ mul-if2 : tie.Need-mul-if2
 mul-if2 c = search needs
 
 slice-read-if2 : tie.Need-slice-read-if2
-slice-read-if2 c = simp length-set (omega (arith, c .before .before .before .before .before .pre))
+slice-read-if2 c = simp length-set (omega (arith, start (c .before .before) .pre))
 
 same-length-2 : tie.Need-same-length-2
 same-length-2 c = search needs
 
 returns-2 : tie.Need-returns-2
 returns-2 c =
-    let s = c .before .before .before .before .before .before in
+    let s = start (c .before .before .before) in
     let a = s .args in
     not-largest (a .list .now) (a .place) (a .last) (a .k) (s .pre .0) (s .pre .1) (s .pre .2) (s .pre .3) (c .if2 .taken)
 
 column-largest-requires : tie.Need-column-largest-requires
-column-largest-requires c κs = (simp length-set (c .before .before .before .before .before .before .before .pre .0), omega (arith, c .before .before .before .before .before .before .before .pre), omega (arith, c .before .before .before .before .before .before .before .pre))
+column-largest-requires c κs =
+    let q = start (c .before .before .before .before) .pre in (simp length-set (q .0), omega (arith, q), omega (arith, q))
 
 add-list : tie.Need-add-list
 add-list c = search needs
@@ -79,14 +84,14 @@ mul-list-3 : tie.Need-mul-list-3
 mul-list-3 c = search needs
 
 slice-write-list-2 : tie.Need-slice-write-list-2
-slice-write-list-2 c = simp length-set (omega (arith, c .before .before .before .before .before .before .before .before .pre))
+slice-write-list-2 c = simp length-set (omega (arith, start (c .before .before .before .before .before) .pre))
 
 same-length-3 : tie.Need-same-length-3
 same-length-3 c = search needs
 
 returns-3 : tie.Need-returns-3
 returns-3 c =
-    let s = c .before .before .before .before .before .before .before .before in
+    let s = start (c .before .before .before .before .before) in
     let a = s .args in
     is-lowered (a .list .now) (a .place) (a .last) (a .k) (s .pre .0) (s .pre .1) (s .pre .2) (s .pre .3) (c .column-largest .result)
     (c .before .before .before .before .if1 .left) (c .before .before .if2 .left) (c .column-largest .ensures)
