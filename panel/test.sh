@@ -17,7 +17,7 @@ for example in example gates; do
     gcc -O2 -Wall -Wextra -Werror panel/$example.c "$lib" -o $made/$example
 done
 gcc -O2 -Wall -Wextra -Werror -Ipanel panel/guard/*.c "$lib" -o $made/guard
-gcc -O2 -Wall -Wextra -Werror -Ipanel -Ipanel/guard panel/lists.c panel/guard/{cases,count,draw,pages,rows}.c "$lib" -o $made/lists
+gcc -O2 -Wall -Wextra -Werror -Ipanel -Ipanel/guard panel/lists/*.c panel/guard/{cases,count,draw,pages,rows}.c "$lib" -o $made/lists
 
 # The header from C++: names must link as C's.
 cat > $made/header.cc <<'END'

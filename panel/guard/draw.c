@@ -124,7 +124,8 @@ size_t random_format(uint8_t *format, const struct row *row)
 
 static uint64_t random_integer(int bits)
 {
-    uint64_t value = draw() >> below(64);
+    uint64_t value = draw();
+    value >>= below(64);
     if (one_in(2))
         value = 0 - value;
     if (one_in(8))

@@ -1,4 +1,4 @@
-/* Random numbers, formats and rows, whole and damaged: in one build the same after the same seed. */
+/* Random numbers, formats and rows, whole and damaged: the same after the same seed, whatever the compiler. */
 #ifndef GUARD_DRAW_H
 #define GUARD_DRAW_H
 

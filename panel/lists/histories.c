@@ -9,284 +9,21 @@
  * named and ends the test with exit code 1.
  */
 #include <inttypes.h>
-#include <signal.h>
-#include <stdarg.h>
 #include <stdio.h>
 #include <stdlib.h>
 #include <string.h>
-#include <unistd.h>
 
-#include "cases.h"
 #include "count.h"
 #include "draw.h"
-#include "pages.h"
-#include "panel.h"
+#include "lists.h"
 #include "rows.h"
-
-enum { GATES = PANEL_MOST_GATES, PIECES = PANEL_MOST_PIECES, NUMBERS = 21 };
-
-struct bytes {
-    const uint8_t *at;
-    size_t length;
-};
 
 static struct bytes text(const char *from)
 {
     return (struct bytes){ (const uint8_t *)from, strlen(from) };
 }
 
-/* ---- The call at hand, for messages ---- */
-
-static enum side side;
-static char call_name[60];
-static uint64_t calls, any_bytes, seen[NUMBERS + 1];
-
-__attribute__((format(printf, 1, 2))) static void begin_call(const char *format, ...)
-{
-    va_list words;
-    va_start(words, format);
-    vsnprintf(call_name, sizeof call_name, format, words);
-    va_end(words);
-    calls++;
-    alarm(60);
-}
-
-__attribute__((noreturn, format(printf, 1, 2))) static void differs(const char *format, ...)
-{
-    char what[200], all[400];
-    va_list words;
-    va_start(words, format);
-    vsnprintf(what, sizeof what, format, words);
-    va_end(words);
-    snprintf(all, sizeof all, "lists, call %" PRIu64 ", page %s, %s: %s", calls, side == AT_END ? "behind" : "before", call_name, what);
-    verdict(0, all);
-    exit(1);
-}
-
-static void on_alarm(int number)
-{
-    (void)number;
-    differs("does not return");
-}
-
-/* ---- Calls: a fault jumps back here ---- */
-
-static void call_empty(const struct slice *l)
-{
-    if (sigsetjmp(before_call, 0) != 0)
-        differs("touches what it is not lent");
-    panel_list_empty((struct panel_list *)l->at);
-}
-
-static struct panel_changed call_join(const struct slice *l, uint32_t gate, const struct slice *f, const struct slice *w)
-{
-    if (sigsetjmp(before_call, 0) != 0)
-        differs("touches what it is not lent");
-    return panel_list_join((struct panel_list *)l->at, gate, f->at, f->length, w->at, w->length);
-}
-
-static struct panel_changed call_leave(const struct slice *l, uint32_t gate)
-{
-    if (sigsetjmp(before_call, 0) != 0)
-        differs("touches what it is not lent");
-    return panel_list_leave((struct panel_list *)l->at, gate);
-}
-
-static void call_lengths(const struct slice *l, const struct slice *to)
-{
-    if (sigsetjmp(before_call, 0) != 0)
-        differs("touches what it is not lent");
-    panel_list_lengths((const struct panel_list *)l->at, (uint64_t *)to->at);
-}
-
-/* ---- The list, lent for each call ---- */
-
-static struct yard list_yard, format_yard, row_yard, lengths_yard;
-
-/* What the list holds between calls. */
-static struct panel_list list;
-
-static void make_list_yards(void)
-{
-    list_yard = make_yard(sizeof list + 64);
-    format_yard = make_yard(MOST_FORMAT + 64);
-    row_yard = make_yard(MOST_ROW + 64);
-    lengths_yard = make_yard(8 * PIECES + 64);
-}
-
-static struct slice lend_list(void)
-{
-    return lend_content(&list_yard, (const uint8_t *)&list, sizeof list, side);
-}
-
-static void take_back(const struct slice *l)
-{
-    if (!kept_past(l, l->length))
-        differs("writes beside the list");
-    memcpy(&list, l->at, sizeof list);
-}
-
-static struct panel_changed changed(const struct slice *l, struct panel_changed r)
-{
-    if (r.number != 0 && !kept(l))
-        differs("refuses with %" PRIu64 " and changes the list", r.number);
-    take_back(l);
-    return r;
-}
-
-static void try_empty(void)
-{
-    struct slice l = lend_list();
-    begin_call("emptying");
-    call_empty(&l);
-    take_back(&l);
-}
-
-static struct panel_changed try_join(uint32_t gate, struct bytes format, struct bytes row)
-{
-    struct slice l = lend_list();
-    struct slice f = lend_content(&format_yard, format.at, format.length, side);
-    struct slice w = lend_content(&row_yard, row.at, row.length, side);
-    set_case(format.at, format.length, row.at, row.length); /* for a leave too, which has none of its own */
-    begin_call("join of gate %" PRIu32, gate);
-    struct panel_changed r = call_join(&l, gate, &f, &w);
-    if (!kept(&f) || !kept(&w))
-        differs("writes to format or row");
-    return changed(&l, r);
-}
-
-/* Other bytes stand where format and row were: a leave must not need them. */
-static struct panel_changed try_leave(uint32_t gate)
-{
-    struct slice l = lend_list();
-    lend_pattern(&format_yard, MOST_FORMAT, side);
-    lend_pattern(&row_yard, MOST_ROW, side);
-    begin_call("leave of gate %" PRIu32, gate);
-    return changed(&l, call_leave(&l, gate));
-}
-
-/* Leaves the lengths in `lengths`; the list is the one that the call before left. */
-static void try_lengths(uint64_t *lengths)
-{
-    struct slice l = lend_list();
-    struct slice to = lend_pattern(&lengths_yard, 8 * PIECES, side);
-    calls++;
-    call_lengths(&l, &to);
-    if (!kept(&l))
-        differs("asking for the lengths then changes the list");
-    if (!kept_past(&to, to.length))
-        differs("asking for the lengths then writes beside them");
-    memcpy(lengths, to.at, 8 * PIECES);
-}
-
-/* ---- The model ---- */
-
-static struct {
-    uint32_t gate;
-    size_t length;
-    uint8_t row[MOST_ROW];
-} present[GATES];
-
-static size_t count;
-
-/* Where the gate stands, or the count. */
-static size_t place_of(uint32_t gate)
-{
-    size_t i = 0;
-    while (i < count && present[i].gate != gate)
-        i++;
-    return i;
-}
-
-static struct panel_changed model_join(uint32_t gate, struct bytes format, struct bytes row)
-{
-    if (place_of(gate) < count)
-        return (struct panel_changed){ 19, 0 };
-    if (count == GATES)
-        return (struct panel_changed){ 21, 0 };
-    struct panel_printed m = panel_measure(format.at, format.length, row.at, row.length);
-    if (m.number == 0) {
-        present[count].gate = gate;
-        present[count].length = row.length;
-        memcpy(present[count].row, row.at, row.length);
-        count++;
-    }
-    return (struct panel_changed){ m.number, m.place };
-}
-
-static struct panel_changed model_leave(uint32_t gate)
-{
-    size_t place = place_of(gate);
-    if (place == count)
-        return (struct panel_changed){ 20, 0 };
-    present[place] = present[--count];
-    return (struct panel_changed){ 0, 0 };
-}
-
-/* The end of the piece of an accepted format that starts at `at`. */
-static size_t piece_end(struct bytes format, size_t at)
-{
-    const uint8_t *f = format.at;
-    if (f[at] != '%') {
-        while (at < format.length && f[at] != '%')
-            at++;
-        return at;
-    }
-    do
-        at++;
-    while (memchr("$<#-+ ,(.0123456789", f[at], 19) != NULL);
-    return at + (f[at] == 't' || f[at] == 'T') + 1;
-}
-
-/* The end of each piece: by printing, or where there is no room for the text, by measuring the format as far as the piece. Returns their number. */
-static size_t ends_of(struct bytes format, const uint8_t *row, size_t row_length, uint64_t *ends)
-{
-    static uint8_t out[MOST_OUT], printed[MOST_ENDS];
-    struct panel_printed p = panel_print(format.at, format.length, row, row_length, out, sizeof out, printed, sizeof printed);
-    size_t k = 0;
-    if (p.number == 0) {
-        for (; k < p.pieces; k++)
-            ends[k] = end_at(printed, k);
-        return k;
-    }
-    for (size_t at = 0; at < format.length; k++) {
-        at = piece_end(format, at);
-        ends[k] = panel_measure(format.at, at, row, row_length).length;
-    }
-    return k;
-}
-
-static void model_lengths(struct bytes format, uint64_t *lengths)
-{
-    uint64_t ends[PIECES];
-    memset(lengths, 0, 8 * PIECES);
-    for (size_t i = 0; i < count; i++) {
-        size_t pieces = ends_of(format, present[i].row, present[i].length, ends);
-        for (size_t k = 0; k < pieces; k++) {
-            uint64_t length = ends[k] - (k == 0 ? 0 : ends[k - 1]);
-            if (lengths[k] < length)
-                lengths[k] = length;
-        }
-    }
-}
-
-/* ---- Comparing ---- */
-
-static void compare_lengths(const uint64_t *want)
-{
-    uint64_t lengths[PIECES];
-    try_lengths(lengths);
-    for (size_t k = 0; k < PIECES; k++)
-        if (lengths[k] != want[k])
-            differs("then length %zu is %" PRIu64 ", not %" PRIu64, k, lengths[k], want[k]);
-}
-
-static void compare_answer(struct panel_changed r, struct panel_changed want)
-{
-    if (r.number != want.number || r.place != want.place)
-        differs("answers %" PRIu64 " at %" PRIu64 ", not %" PRIu64 " at %" PRIu64, r.number, r.place, want.number, want.place);
-    seen[r.number]++;
-}
+/* ---- Calls beside the model ---- */
 
 static void compare_join(uint32_t gate, struct bytes format, struct bytes row)
 {
@@ -317,7 +54,7 @@ static void begin_list(void)
     set_case(NULL, 0, NULL, 0);
     fill_with_random();
     try_empty();
-    count = 0;
+    model_empty();
     compare_lengths(none);
 }
 
@@ -378,7 +115,6 @@ static void try_extremes(void)
     static char longest[MOST_AREA + 1];
     const char *format = "%1$2147483647d%1$2147483647x%1$-2147483647o%2$s";
     uint64_t want[PIECES] = { 2147483647, 2147483647, 2147483647, MOST_AREA };
-    const struct slice nothing = { NULL, 0, NULL, 0, NULL };
     static const uint64_t none[PIECES];
     memset(longest, 'y', MOST_AREA);
     begin_list();
@@ -389,9 +125,7 @@ static void try_extremes(void)
     want[3] = 0;
     compare_lengths(want);
     begin_list();
-    struct slice l = lend_list();
-    begin_call("join with null pointers");
-    compare_answer(changed(&l, call_join(&l, 3, &nothing, &nothing)), (struct panel_changed){ 14, 0 });
+    compare_answer(try_join_of_null(3), (struct panel_changed){ 14, 0 });
     compare_answer(try_join(3, (struct bytes){ NULL, 0 }, known_row(0, "")), (struct panel_changed){ 0, 0 });
     compare_lengths(none);
 }
@@ -441,7 +175,7 @@ static uint32_t draw_gate(int wants_present)
     for (int tries = 0; tries < 3; tries++) {
         size_t n = below(150);
         gate = n == 0 ? 0 : n == 1 ? UINT32_MAX : (uint32_t)n * UINT32_C(2654435761);
-        if ((place_of(gate) < count) == wants_present)
+        if (model_has(gate) == wants_present)
             break;
     }
     return gate;
@@ -539,10 +273,15 @@ static void spoil(size_t way)
         for (size_t i = 0; i < PANEL_LIST_WORDS; i++)
             list.words[i] = (uint32_t)below(200);
     } else {
-        for (size_t i = 1 + below(200); i > 0; i--)
-            list.words[one_in(2) ? below(700) : below(PANEL_LIST_WORDS)] = (uint32_t)(draw() >> below(64));
+        for (size_t i = 1 + below(200); i > 0; i--) {
+            uint64_t word = draw();
+            word >>= below(64);
+            list.words[one_in(2) ? below(700) : below(PANEL_LIST_WORDS)] = (uint32_t)word;
+        }
     }
 }
+
+static uint64_t any_bytes;
 
 /* What the calls answer is not compared. */
 static void try_any_bytes(size_t rounds)
@@ -586,9 +325,7 @@ static int report(void)
 int main(int argc, char **argv)
 {
     uint64_t first = argc > 1 ? strtoull(argv[1], NULL, 10) : 1;
-    make_list_yards();
-    catch_faults();
-    signal(SIGALRM, on_alarm);
+    make_calls_ready();
     for (int i = AT_END; i <= AT_START; i++) {
         side = i;
         seed(first + (uint64_t)i);
