@@ -157,7 +157,8 @@ class Refusals(Case):
 
     def test_manual_and_header_have_the_same_refusals(self):
         with open(os.path.join(ROOT, "docs", "MANUAL.md"), encoding="utf-8") as file:
-            rows = re.findall(r"^\| ([0-9]+) \| (.*?) \| (.*?) \| .*\|$", file.read().partition("## Refusals")[2], re.M)
+            table = file.read().partition("\n## Refusals\n")[2].partition("\n## ")[0]
+        rows = re.findall(r"^\| ([0-9]+) \| (.*?) \| (.*?) \| .*\|$", table, re.M)
         self.assertEqual({int(number): (cause, cure) for number, cause, cure in rows}, REFUSALS)
         with open(os.path.join(ROOT, "panel", "panel.h"), encoding="utf-8") as file:
             # Of c, m or p: the list's own numbers, which only j and l return, are none of the command's.
