@@ -125,10 +125,10 @@ struct panel_printed panel_print(const uint8_t *fmt, size_t fmt_len, const uint8
  *
  * The memory is the caller's, 264,708 bytes; what stands in it is the library's own: gate numbers and lengths, nothing of
  * rows and format. A list is begun by panel_list_empty, whatever stood in the memory before, and from then on changed by
- * these calls alone. Its pointer is never null.
+ * these calls alone. Its pointer must not be null.
  *
- * Each join is lent the format, the same from one emptying to the next; lengths are not promised where it is not. To change
- * the format, empty the list and let the gates join again. Rows of different kinds may stand in one list.
+ * Each join is lent the format, the same bytes from one emptying to the next; answers and lengths are not promised where they
+ * are not. To change the format, empty the list and let the gates join again. Rows of different kinds may stand in one list.
  *
  * Where other bytes stand in the memory than these calls left, every call still returns and touches nothing outside what it
  * is lent, and a refusal still changes nothing; answers and lengths are not promised until the list is emptied.
@@ -143,24 +143,26 @@ struct panel_changed {
     uint64_t number, place;
 };
 
-/* Makes any memory a list without gates. Costs the clearing of 512 lengths. */
+/* Makes the memory a list without gates, whatever stands in it. Costs the clearing of 512 lengths. */
 void panel_list_empty(struct panel_list *list);
 
 /* Takes in a gate with its row. Any number will do that is not present, one that has left too. What panel_measure refuses
-   is refused with the same number and place. Costs a pass over format and row, as measuring does, and over 512 lengths. */
+   is refused with the same number and place. Costs what panel_measure does, a pass over the numbers of the gates present,
+   and two over 512 lengths. */
 struct panel_changed panel_list_join(struct panel_list *list, uint32_t gate, const uint8_t *fmt, size_t fmt_len,
                                      const uint8_t *row, size_t row_len);
 
-/* Takes out a gate; its place and its number are free again. Measures nothing: costs a pass over 512 lengths and, for each
-   piece at which no gate is longer, over that piece's lengths of the gates present. */
+/* Takes out a gate; its place and its number are free again. Measures nothing: costs a pass over the numbers of the gates
+   present and one over 512 lengths; and for each piece at which no gate is longer, over that piece's lengths up to the first
+   gate as long. That is at most one pass over the lengths of the gates present. */
 struct panel_changed panel_list_leave(struct panel_list *list, uint32_t gate);
 
 /*
- * Writes 512 lengths: for piece k, counted from 0, the largest among the gates present, and 0 past the format's pieces. All
+ * Writes 512 lengths, whatever the format: for piece k, counted from 0, the largest among the gates present, and 0 past the format's pieces. All
  * are 0 where no gate is present. Plain text, `%%` and `%n` are pieces too, whose length counts while a gate is present.
  * From panel_list_empty on, these are after every call the lengths worked out afresh from the gates present. Costs a copy.
  */
-void panel_list_lengths(const struct panel_list *list, uint64_t *lengths);
+void panel_list_lengths(const struct panel_list *list, uint64_t lengths[PANEL_MOST_PIECES]);
 
 #ifdef __cplusplus
 }

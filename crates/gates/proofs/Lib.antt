@@ -1,3 +1,4 @@
 pub mod Causes
 pub mod Same
 pub mod Places
+pub mod Present

@@ -1,6 +1,6 @@
 -- Gates place by place: which are present, the largest length, and one taken out. Assumes nothing.
 use mathlib.Core.Path.{_≡_, refl, sym, ap, _∙_}
-use mathlib.Core.Bool.{Bool, true, false, _||_}
+use mathlib.Core.Bool.{Bool, true, false, _||_, true≢false}
 use mathlib.Core.List.{List, [], _∷_, _++_}
 use Prim.Native.Nat.{ℕ, zero, suc, _+_, _-_, _≤_, _<_, max}
 use native.Mathlib.Decide.{decLt}
@@ -29,11 +29,19 @@ unfolding isPresent
 absent n [] h = refl
 absent n (g ∷ gates) h = simp (ne-eqb (g .number) n (h 0 (omega arith)), absent n gates (λ i j. h (suc i) (omega arith)))
 
+pub neither : (t u : Bool) → (t || u) ≡ false → (t ≡ false) × (u ≡ false)
+neither false u e = (refl, e)
+neither true u e = absurd (true≢false e)
+
+-- Gates without one that is not among them.
+pub all-without : (n : ℕ) (gates : List Gate) → isPresent n gates ≡ false → without n gates ≡ gates
+unfolding isPresent without
+all-without n [] h = refl
+all-without n (g ∷ gates) h =
+    let e = neither (eqb (g .number) n) (isPresent n gates) h in simp (e .0) (ap (λ (l : List Gate). g ∷ l) (all-without n gates (e .1)))
+
 pub without-absent : (n : ℕ) (gates : List Gate) → ((i : ℕ) → i < length gates → gateAt gates i .number ≡ n → ⊥) → without n gates ≡ gates
-unfolding without
-without-absent n [] h = refl
-without-absent n (g ∷ gates) h =
-    simp (ne-eqb (g .number) n (h 0 (omega arith))) (ap (λ (l : List Gate). g ∷ l) (without-absent n gates (λ i j. h (suc i) (omega arith))))
+without-absent n gates h = all-without n gates (absent n gates h)
 
 pub largest-more : (s : List ℕ) (k : ℕ) (gates : List Gate) (g : Gate) → largest s k (gates ++ (g ∷ [])) ≡ max (largest s k gates) (pieceLength s (g .row) k)
 unfolding largest

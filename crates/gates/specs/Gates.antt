@@ -40,18 +40,20 @@ pub data Change : Type 0 where
   joins : ℕ → List ℕ → Change
   leaves : ℕ → Change
 
--- "Answers, place 0 ..: 19 for a join of a gate present; 20 for a leave of a gate absent; 21 for a join when 128 are present; 19 comes before 21, both
--- before measuring's numbers." "A row that measuring refuses is not taken in, with measuring's own number and place."
+-- What a call answers: 0 where it is done, else a number and a place.
 abbrev pub done : Changed
 done = record { number = 0; place = 0 }
 
 abbrev pub refused : ℕ → ℕ → Changed
 refused number place = record { number = number; place = place }
 
+-- "A row that measuring refuses is not taken in, with measuring's own number and place."
 abbrev pub ifMeasured : Outcome → Changed
 ifMeasured (Accepted n k) = done
 ifMeasured (Refused number place) = refused number place
 
+-- "Answers, place 0 ..: 19 for a join of a gate present; 20 for a leave of a gate absent; 21 for a join when 128 are present; 19 comes before 21, both
+-- before measuring's numbers."
 unfoldable pub answer : List ℕ → List Gate → Change → Changed
 answer s gates (joins n row) =
     choose (isPresent n gates) (λ _. refused 19 0)

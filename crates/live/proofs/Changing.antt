@@ -27,7 +27,7 @@ use Rattle.live.proofs.Leaving.{holds-less, same-rest}
 
 -- A call that is refused, whatever gates memory represents, leaves it as it was.
 refuses : (s : List ℕ) (c : Change) (m : List ℕ) (number place : ℕ) → (number ≡ 0 → ⊥)
-    → ((gates : List Gate) → Represents s gates m → answer s gates c ≡ refused number place) → (a : Changed) → a ≡ refused number place → Changes s c m a m
+    → ((gates : List Gate) → Represents s gates m → answer s gates c ≡ refused number place) → (a : Changed) → a ≡ refused number place → Changes Represents s c m a m
 unfolding after
 refuses s c m number place n h a e =
     record {
@@ -38,7 +38,7 @@ refuses s c m number place n h a e =
 
 -- A call that is done.
 does : (s : List ℕ) (c : Change) (m m′ : List ℕ) → ((gates : List Gate) → Represents s gates m → (answer s gates c ≡ done) × Represents s (changed gates c) m′)
-    → Changes s c m done m′
+    → Changes Represents s c m done m′
 unfolding after
 does s c m m′ h =
     record {
@@ -74,11 +74,11 @@ module _ (s : List ℕ) (m : List ℕ) (n count place : ℕ) (counted : count �
 module _ (s : List ℕ) (m : List ℕ) (n count place : ℕ) (counted : count ≡ min (countOf m) 128) (p : PlaceOf m count n place) where
   -- Joining.
   module _ (row : List ℕ) where
-    pub is-present : place < count → (a : Changed) → a ≡ refused 19 0 → Changes s (joins n row) m a m
+    pub is-present : place < count → (a : Changed) → a ≡ refused 19 0 → Changes Represents s (joins n row) m a m
     unfolding answer
     is-present h = refuses s (joins n row) m 19 0 (λ e. omega arith) (λ gates r. simp (found s m n count place counted p gates r h))
 
-    pub is-full : count ≤ place → mostGates ≤ count → (a : Changed) → a ≡ refused 21 0 → Changes s (joins n row) m a m
+    pub is-full : count ≤ place → mostGates ≤ count → (a : Changed) → a ≡ refused 21 0 → Changes Represents s (joins n row) m a m
     unfolding answer
     is-full h full =
         refuses s (joins n row) m 21 0 (λ e. omega arith)
@@ -88,7 +88,7 @@ module _ (s : List ℕ) (m : List ℕ) (n count place : ℕ) (counted : count �
         ))
 
     pub is-unmeasured : count ≤ place → count < mostGates → (number at : ℕ) → measured s row ≡ O.Refused number at
-        → (a : Changed) → a ≡ refused number at → Changes s (joins n row) m a m
+        → (a : Changed) → a ≡ refused number at → Changes Represents s (joins n row) m a m
     unfolding answer
     is-unmeasured h few number at e =
         refuses s (joins n row) m number at (λ z. omega (arith, number-in-table (measuring s row) number at (ap ofOutcome e)))
@@ -99,7 +99,7 @@ module _ (s : List ℕ) (m : List ℕ) (n count place : ℕ) (counted : count �
         ))
 
     pub is-joined : count ≤ place → count < mostGates → (bytes pieces : ℕ) → measured s row ≡ O.Accepted bytes pieces → (ends m′ : List ℕ)
-        → TakenIn m count n ends pieces m′ → ((k : ℕ) → lengthIn ends pieces k ≡ pieceLength s row k) → Changes s (joins n row) m done m′
+        → TakenIn m count n ends pieces m′ → ((k : ℕ) → lengthIn ends pieces k ≡ pieceLength s row k) → Changes Represents s (joins n row) m done m′
     unfolding answer
     is-joined h few bytes pieces e ends m′ w is = does s (joins n row) m m′ (λ gates r. (
       simp (missing s m n count place counted p gates r h, lt-leb mostGates (length gates) (omega (arith, as-many s m n count place counted p gates r)), e),
@@ -120,7 +120,7 @@ module _ (s : List ℕ) (m : List ℕ) (n count place : ℕ) (counted : count �
             }
 
   -- Leaving.
-  pub is-absent : count ≤ place → (a : Changed) → a ≡ refused 20 0 → Changes s (leaves n) m a m
+  pub is-absent : count ≤ place → (a : Changed) → a ≡ refused 20 0 → Changes Represents s (leaves n) m a m
   unfolding answer
   is-absent h = refuses s (leaves n) m 20 0 (λ e. omega arith) (λ gates r. simp (missing s m n count place counted p gates r h))
 
@@ -137,6 +137,6 @@ module _ (s : List ℕ) (m : List ℕ) (n count place : ℕ) (counted : count �
               (same-without n (r .same));
         }
 
-    pub is-left : Changes s (leaves n) m done (set (set M (1 + place) (numberAt M last)) 0 last)
+    pub is-left : Changes Represents s (leaves n) m done (set (set M (1 + place) (numberAt M last)) 0 last)
     unfolding answer
     is-left = does s (leaves n) m _ (λ gates r. (simp (found s m n count place counted p gates r h), left gates r))

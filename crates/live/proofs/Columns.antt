@@ -33,8 +33,9 @@ module _ (ends : List ℕ) (pieces : ℕ) where
   pub length-past : (k : ℕ) → pieces ≤ k → 0 ≡ lengthIn ends pieces k
   length-past k h = simp (le-ltb k pieces h)
 
-  pub length-first : (k : ℕ) → k ≡ 0 → 0 < pieces → getD ends 0 0 < 2 ^ 32 → getD ends 0 0 ≡ lengthIn ends pieces k
-  length-first k e h b = rw e (simp (lt-ltb 0 pieces h) (omega arith))
+  pub length-first : (k : ℕ) → k ≡ 0 → k < pieces → getD ends k 0 < 2 ^ 32 → getD ends k 0 ≡ lengthIn ends pieces k
+  length-first zero e h b = simp (lt-ltb 0 pieces h) (omega arith)
+  length-first (suc k) e h b = absurd (omega arith)
 
   pub length-next : (k r : ℕ) → (k ≡ 0 → ⊥) → k < pieces → r < 2 ^ 32 → getD ends (k - 1) 0 < 2 ^ 32
       → (r + getD ends (k - 1) 0) % 2 ^ 32 ≡ getD ends k 0 → r ≡ lengthIn ends pieces k

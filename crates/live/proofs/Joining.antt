@@ -14,7 +14,7 @@ use Rattle.live.specs.Lists.{countOf, numberAt, longestAt, lengthAt, Hol
 use Rattle.live.specs.Steps.{lengthIn, TakenIn}
 use Rattle.live.specs.Promises.{Emptied}
 
-pub emptied : (m : List ℕ) → countOf m ≡ 0 → ((k : ℕ) → k < mostPieces → longestAt m k ≡ 0) → Emptied m
+pub emptied : (m : List ℕ) → countOf m ≡ 0 → ((k : ℕ) → k < mostPieces → longestAt m k ≡ 0) → Emptied Represents m
 unfolding largest
 emptied m e h s = record { held = []; holds = holds; same = none }
   where

@@ -1,4 +1,4 @@
--- What the memory of a list holds. The promises of the calls speak of `Represents` alone, and the claim over histories speaks of neither.
+-- What the memory of a list holds. The promises of the calls speak of `Represents` alone; the claim over histories holds whatever stands in its place.
 use Prim.Native.Nat.{ℕ, _+_, _*_, _≤_, _<_}
 use mathlib.Core.Path.{_≡_}
 use mathlib.Core.List.{List}

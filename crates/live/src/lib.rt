@@ -7,7 +7,7 @@ ghost use mathlib.Core.Path.{_≡_};
 ghost use lib.ListN.{length};
 ghost use Prim.Native.Nat.{_+_, _≤_, _<_, min, max};
 ghost use Rattle.gates.specs.Gates.{joins, refused, ifMeasured};
-ghost use Rattle.live.specs.Lists.{countOf};
+ghost use Rattle.live.specs.Lists.{countOf, Represents};
 ghost use Rattle.live.specs.Steps.{PlaceOf, lengthIn, Stored, raisedTo, TakenIn, columnLargest, TakenOutAt, TakenOut};
 ghost use Rattle.live.specs.Promises.{Emptied, Changes, Leaves, Lengths};
 
@@ -56,7 +56,7 @@ fn place_of(list: &[u32], count: usize, gate: u32) -> usize
 // Empties the list: it costs the clearing of the largest lengths. What other words hold does not matter.
 pub fn empty(list: &mut [u32])
     requires { ⌜ length (now list) ≡ 66177 ⌝ }
-    ensures { λ r. ⌜ Emptied (now (list .exit)) ⌝ }
+    ensures { λ r. ⌜ Emptied Represents (now (list .exit)) ⌝ }
 {
     list[0] = 0;
     let mut k = 0;
@@ -75,7 +75,7 @@ fn piece_len(ends: &[u32], pieces: usize, k: usize) -> u32
         return 0;
     }
     if k == 0 {
-        return ends[0];
+        return ends[k];
     }
     std::num::wrapping_sub_u32(ends[k], ends[k - 1])
 }
@@ -151,11 +151,11 @@ fn refused_by(found: Outcome) -> Changed
     }
 }
 
-// A gate joins, with its row under the format of the list. Costs one pass over format and row, one over the numbers of the gates present, and one over
-// 512 lengths to write them and one to raise the largest.
+// A gate joins, with its row under the format of the list. Costs what measuring does, one pass over format and row, and a pass over the numbers of the
+// gates present; then its 512 lengths are written and the largest raised to them.
 pub fn join<'a>(list: &mut [u32], gate: u32, fmt: &'a [u8], row: &'a [u8]) -> Changed
     requires { ⌜ length (now list) ≡ 66177 ⌝ }
-    ensures { λ r. ⌜ Changes (now (fmt .entry)) (joins gate (now (row .entry))) (now (list .entry)) r (now (list .exit)) ⌝ }
+    ensures { λ r. ⌜ Changes Represents (now (fmt .entry)) (joins gate (now (row .entry))) (now (list .entry)) r (now (list .exit)) ⌝ }
 {
     let count = count_of(list);
     if place_of(list, count, gate) < count {
@@ -225,11 +225,11 @@ fn take_out(list: &mut [u32], place: usize, last: usize)
     }
 }
 
-// A gate leaves. Nothing is measured: it costs one pass over the numbers and one over 512 lengths, and of a piece whose largest length was the gate's
-// alone, one over the lengths of this piece.
+// A gate leaves. Nothing is measured: it costs a pass over the numbers and one over its 512 lengths; and of each piece at which no gate is longer, one over
+// this piece's lengths up to the first as long, so in all at most one pass over the lengths of the gates present.
 pub fn leave(list: &mut [u32], gate: u32) -> Changed
     requires { ⌜ length (now list) ≡ 66177 ⌝ }
-    ensures { λ r. ⌜ Leaves gate (now (list .entry)) r (now (list .exit)) ⌝ }
+    ensures { λ r. ⌜ Leaves Represents gate (now (list .entry)) r (now (list .exit)) ⌝ }
 {
     let count = count_of(list);
     let place = place_of(list, count, gate);
@@ -249,7 +249,7 @@ pub fn leave(list: &mut [u32], gate: u32) -> Changed
 // The 512 lengths: a copy.
 pub fn lengths(list: &[u32], out: &mut [u64])
     requires { ⌜ (length (now list) ≡ 66177) × (length (now out) ≡ 512) ⌝ }
-    ensures { λ r. ⌜ Lengths (now (list .entry)) (now (out .exit)) ⌝ }
+    ensures { λ r. ⌜ Lengths Represents (now (list .entry)) (now (out .exit)) ⌝ }
 {
     let mut k = 0;
     while k < refusals::MOST_PIECES {

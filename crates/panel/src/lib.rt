@@ -11,6 +11,7 @@ ghost use Rattle.outcomes.specs.Printed.{measured, printed};
 ghost use Rattle.outcomes.specs.declared.Outcome.the-variants.{Accepted};
 ghost use Rattle.writing.specs.Laid.{laid};
 ghost use Rattle.gates.specs.Gates.{joins};
+ghost use Rattle.live.specs.Lists.{Represents};
 ghost use Rattle.live.specs.Promises.{Emptied, Changes, Leaves, Lengths};
 ghost use Rattle.panel.specs.Entries.{checkAnswer, printAnswer, Holds, Prints, BothLaid, PanelPrints};
 
@@ -163,7 +164,7 @@ pub extern "C" fn panel_print<'a>(
 // Empties a list of gates.
 #[no_mangle]
 pub extern "C" fn panel_list_empty(list: &mut [u32; live::WORDS])
-    ensures { λ r. ⌜ Emptied (now (list .exit)) ⌝ }
+    ensures { λ r. ⌜ Emptied Represents (now (list .exit)) ⌝ }
 {
     live::empty(list);
 }
@@ -176,7 +177,7 @@ pub extern "C" fn panel_list_join<'a>(
     fmt: &'a [u8],
     row: &'a [u8],
 ) -> Changed
-    ensures { λ r. ⌜ Changes (now (fmt .entry)) (joins gate (now (row .entry))) (now (list .entry)) r (now (list .exit)) ⌝ }
+    ensures { λ r. ⌜ Changes Represents (now (fmt .entry)) (joins gate (now (row .entry))) (now (list .entry)) r (now (list .exit)) ⌝ }
 {
     live::join(list, gate, fmt, row)
 }
@@ -184,7 +185,7 @@ pub extern "C" fn panel_list_join<'a>(
 // A gate leaves a list.
 #[no_mangle]
 pub extern "C" fn panel_list_leave(list: &mut [u32; live::WORDS], gate: u32) -> Changed
-    ensures { λ r. ⌜ Leaves gate (now (list .entry)) r (now (list .exit)) ⌝ }
+    ensures { λ r. ⌜ Leaves Represents gate (now (list .entry)) r (now (list .exit)) ⌝ }
 {
     live::leave(list, gate)
 }
@@ -192,7 +193,7 @@ pub extern "C" fn panel_list_leave(list: &mut [u32; live::WORDS], gate: u32) -> 
 // The largest lengths of a list.
 #[no_mangle]
 pub extern "C" fn panel_list_lengths(list: &[u32; live::WORDS], lengths: &mut [u64; 512])
-    ensures { λ r. ⌜ Lengths (now (list .entry)) (now (lengths .exit)) ⌝ }
+    ensures { λ r. ⌜ Lengths Represents (now (list .entry)) (now (lengths .exit)) ⌝ }
 {
     live::lengths(list, lengths);
 }

@@ -11,14 +11,17 @@ returns : tie.Need-returns
 returns c =
     let a = c .before .before .args in length-past (a .ends .now) (a .pieces) (a .k) (c .if1 .taken)
 
+mul-result : tie.Need-mul-result
+mul-result c = search needs
+
 shared-slice-read-result : tie.Need-shared-slice-read-result
 shared-slice-read-result c = search needs
 
 returns-2 : tie.Need-returns-2
 returns-2 c =
     let a = c .before .before .before .before .args in
-    let b : getD (a .ends .now) 0 0 < 2 ^ 32 = omega (arith, c .shared-slice-known2 .given 0) in
-    length-first (a .ends .now) (a .pieces) (a .k) (c .before .if2 .taken) (omega (arith, c .before .before .if1 .left, c .before .if2 .taken)) b
+    let b : getD (a .ends .now) (a .k) 0 < 2 ^ 32 = omega (arith, c .shared-slice-known2 .given (a .k)) in
+    length-first (a .ends .now) (a .pieces) (a .k) (c .before .if2 .taken) (omega (arith, c .before .before .if1 .left)) b
 
 mul-wrapping-sub-u32 : tie.Need-mul-wrapping-sub-u32
 mul-wrapping-sub-u32 c = search needs
@@ -53,6 +56,7 @@ piece-len-spec =
     tie.close
     (tie.spec
     returns
+    mul-result
     shared-slice-read-result
     returns-2
     mul-wrapping-sub-u32
