@@ -21,7 +21,7 @@ returns-2 : tie.Need-returns-2
 returns-2 c =
     let a = c .before .before .before .before .args in
     let b : getD (a .ends .now) (a .k) 0 < 2 ^ 32 = omega (arith, c .shared-slice-known2 .given (a .k)) in
-    length-first (a .ends .now) (a .pieces) (a .k) (c .before .if2 .taken) (omega (arith, c .before .before .if1 .left)) b
+    length-first (a .ends .now) (a .pieces) (a .k) (omega (arith, c .before .if2 .taken)) (omega (arith, c .before .before .if1 .left)) b
 
 mul-wrapping-sub-u32 : tie.Need-mul-wrapping-sub-u32
 mul-wrapping-sub-u32 c = search needs
