@@ -7,8 +7,14 @@
 #include <unistd.h>
 
 #include "count.h"
+#include "draw.h"
 #include "lists.h"
 #include "sizes.h"
+
+struct bytes text(const char *from)
+{
+    return (struct bytes){ (const uint8_t *)from, strlen(from) };
+}
 
 /* ---- The call at hand, for messages ---- */
 
@@ -179,4 +185,21 @@ void compare_answer(struct panel_changed r, struct panel_changed want)
     if (r.number != want.number || r.place != want.place)
         differs("answers %" PRIu64 " at %" PRIu64 ", not %" PRIu64 " at %" PRIu64, r.number, r.place, want.number, want.place);
     seen[r.number]++;
+}
+
+/* ---- Beginning ---- */
+
+void fill_with_random(void)
+{
+    for (size_t i = 0; i < PANEL_LIST_WORDS; i++)
+        list.words[i] = (uint32_t)draw();
+}
+
+void begin_list(void)
+{
+    static const uint64_t none[PIECES];
+    set_case(NULL, 0, NULL, 0);
+    fill_with_random();
+    try_empty();
+    compare_lengths(none);
 }

@@ -1,4 +1,4 @@
-/* What the histories are made of: calls beside guard pages, and the model. */
+/* What the histories are made of: calls beside guard pages, known calls, and the model. */
 #ifndef LISTS_LISTS_H
 #define LISTS_LISTS_H
 
@@ -14,6 +14,8 @@ struct bytes {
     const uint8_t *at;
     size_t length;
 };
+
+struct bytes text(const char *from);
 
 /* ---- calls.c: a difference is named and ends the test ---- */
 
@@ -41,7 +43,20 @@ void try_lengths(uint64_t *lengths);
 void compare_lengths(const uint64_t *want);
 void compare_answer(struct panel_changed r, struct panel_changed want);
 
-/* ---- model.c: keeps the rows, and works out afresh what is asked ---- */
+void fill_with_random(void);
+
+/* Empties memory of random bytes; all lengths must then be 0. */
+void begin_list(void);
+
+/* ---- known.c ---- */
+
+/* Calls with known answers and lengths. */
+void try_known(void);
+
+/* ---- model.c: keeps the rows, and works out afresh which gates are present and the largest lengths ---- */
+
+/* What a row's texts are, and what measuring answers to it, it asks this library's own printing and measuring, which are compared
+   elsewhere. */
 
 void model_empty(void);
 struct panel_changed model_join(uint32_t gate, struct bytes format, struct bytes row);
