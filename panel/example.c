@@ -1,4 +1,5 @@
-/* A host program: prints a log of rows with one format, cuts single columns out by the ends, prints floats and moments, and shows every refusal of checking, measuring and printing. */
+/* A host program: prints a log of rows with one format, cuts single columns out by the ends, prints floats and moments, and shows every refusal of
+   checking, measuring and printing. */
 #include <inttypes.h>
 #include <stdio.h>
 #include <stdlib.h>

@@ -1,4 +1,4 @@
-/* A host program: gates join and leave a live list, and after each change those present are printed in columns as wide as the longest entry. */
+/* A host program: gates join and leave a live list, and after each change those present are printed in columns of as many bytes as the longest entry. */
 #include <inttypes.h>
 #include <stdio.h>
 #include <string.h>

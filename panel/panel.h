@@ -158,9 +158,10 @@ struct panel_changed panel_list_join(struct panel_list *list, uint32_t gate, con
 struct panel_changed panel_list_leave(struct panel_list *list, uint32_t gate);
 
 /*
- * Writes 512 lengths, whatever the format: for piece k, counted from 0, the largest among the gates present, and 0 past the format's pieces. All
- * are 0 where no gate is present. Plain text, `%%` and `%n` are pieces too, whose length counts while a gate is present.
- * From panel_list_empty on, these are after every call the lengths worked out afresh from the gates present. Costs a copy.
+ * Writes 512 lengths, whatever the format; the pointer must not be null. For piece k, counted from 0, the largest among the
+ * gates present, and 0 past the format's pieces. All are 0 where no gate is present. Plain text, `%%` and `%n` are pieces
+ * too, whose length counts while a gate is present. From panel_list_empty on, these are after every call the lengths worked
+ * out afresh from the gates present. Costs a copy.
  */
 void panel_list_lengths(const struct panel_list *list, uint64_t lengths[PANEL_MOST_PIECES]);
 

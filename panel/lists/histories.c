@@ -102,13 +102,13 @@ static uint32_t draw_gate(int wants_present)
 }
 
 /* Joins prevail for some time and leaves for some, so that the list is full and empty now and then. */
-static void try_scene(struct bytes format, const char *columns, size_t changes)
+static void try_drawn(struct bytes format, const char *columns, size_t changes)
 {
-    static const size_t leanings[] = { 15, 4, 12, 1, 8 };
+    static const size_t shares[] = { 15, 4, 12, 1, 8 };
     begin_list();
     model_empty();
     for (size_t i = 0; i < changes; i++) {
-        int joins = below(16) < leanings[i / 250 % 5];
+        int joins = below(16) < shares[i / 250 % 5];
         uint32_t gate = draw_gate(!joins);
         if (joins)
             compare_join(gate, format, draw_row(columns));
@@ -121,7 +121,7 @@ static void try_scene(struct bytes format, const char *columns, size_t changes)
 static const struct {
     const char *format, *columns;
     size_t changes;
-} scenes[] = {
+} drawn[] = {
     { "%d %s%n", "is", 1500 },
     { "gate list%n100 %%", "??", 500 },
     { "", "?", 300 },
@@ -142,7 +142,7 @@ static const struct {
     { "%tF %<d", "t", 20 },
 };
 
-/* As many elements as the largest index and 512 allow, each of another value or letter; then one more, and a format one byte too long. */
+/* As many elements as the largest index and 512 allow, over 64 values and in five letters; then one more, and a format one byte too long. */
 static void try_long_formats(void)
 {
     static char format[MOST_FORMAT + 2], columns[MOST_KINDS + 1];
@@ -150,11 +150,11 @@ static void try_long_formats(void)
     memset(columns, 'i', MOST_KINDS);
     for (unsigned i = 0; i < PIECES; i++)
         length += (size_t)sprintf(format + length, "%%%u$%c", 1 + i % MOST_KINDS, "dxoXsdxo"[i / MOST_KINDS]);
-    try_scene(text(format), columns, 500);
+    try_drawn(text(format), columns, 500);
     strcpy(format + length, "%%");
-    try_scene(text(format), columns, 20);
+    try_drawn(text(format), columns, 20);
     memset(format, 'x', MOST_FORMAT + 1);
-    try_scene(text(format), "i", 20);
+    try_drawn(text(format), "i", 20);
 }
 
 /* A random format and rows of the kinds that it was made for. */
@@ -170,13 +170,13 @@ static void try_random_format(void)
     size_t length = random_format(format, &row);
     if (one_in(8))
         length = damage(format, length, sizeof format);
-    try_scene((struct bytes){ format, length }, columns, 60);
+    try_drawn((struct bytes){ format, length }, columns, 60);
 }
 
-static void try_scenes(void)
+static void try_all_drawn(void)
 {
-    for (size_t i = 0; i < sizeof scenes / sizeof scenes[0]; i++)
-        try_scene(text(scenes[i].format), scenes[i].columns, scenes[i].changes);
+    for (size_t i = 0; i < sizeof drawn / sizeof drawn[0]; i++)
+        try_drawn(text(drawn[i].format), drawn[i].columns, drawn[i].changes);
     try_long_formats();
     for (int i = 0; i < 50; i++)
         try_random_format();
@@ -197,7 +197,7 @@ enum { WAYS = 7, WAYS_OVER_ALL = 4 };
 
 /* Ways that write over all words; then ways that alter the list that calls have left: a little of it, since what is nearly a list
    leads code further than what is none, or more. Most are near the front, where few words say most. */
-static void spoil(size_t way)
+static void put_any(size_t way)
 {
     if (way == 0) {
         fill_with_random();
@@ -222,8 +222,8 @@ static void try_any_bytes(size_t rounds)
     uint64_t lengths[PIECES];
     for (size_t i = 0; i < rounds; i++) {
         if (i % WAYS >= WAYS_OVER_ALL)
-            try_scene(text("%d %s%n"), "is", 10 + below(190));
-        spoil(i % WAYS);
+            try_drawn(text("%d %s%n"), "is", 10 + below(190));
+        put_any(i % WAYS);
         any_bytes -= calls;
         for (int n = 0; n < 8; n++) {
             uint32_t gate = one_in(4) ? draw_gate(0) : list.words[one_in(2) ? below(130) : below(PANEL_LIST_WORDS)];
@@ -242,7 +242,7 @@ static void try_any_bytes(size_t rounds)
 /* Every answer must have come. Returns the exit code. */
 static int report(void)
 {
-    printf("lists: %" PRIu64 " calls as the model has them, %" PRIu64 " with any bytes; answers", calls - any_bytes, any_bytes);
+    printf("lists: %" PRIu64 " calls as they must be, %" PRIu64 " with any bytes; answers", calls - any_bytes, any_bytes);
     for (size_t n = 0; n <= NUMBERS; n++)
         if (seen[n] > 0)
             printf(" %zu: %" PRIu64, n, seen[n]);
@@ -263,7 +263,7 @@ int main(int argc, char **argv)
         side = i;
         seed(first + (uint64_t)i);
         try_known();
-        try_scenes();
+        try_all_drawn();
         try_any_bytes(150);
     }
     return report();

@@ -52,7 +52,7 @@ def why_not_built():
 
 
 class Library:
-    """The three functions, and the loop over rows of a log."""
+    """Checking, measuring and printing, and the loop over rows of a log."""
 
     def __init__(self):
         try:

@@ -60,11 +60,12 @@ answer s gates (joins n row) =
     (λ _. choose (leb mostGates (length gates)) (λ _. refused 21 0) (λ _. ifMeasured (measured s row)))
 answer s gates (leaves n) = choose (isPresent n gates) (λ _. done) (λ _. refused 20 0)
 
--- The gates after a call; "list unchanged" where it is refused.
+-- The gates after a call that is done,
 abbrev pub changed : List Gate → Change → List Gate
 changed gates (joins n row) = record { number = n; row = row } ∷ gates
 changed gates (leaves n) = without n gates
 
+-- and after any call: "list unchanged" where it is refused.
 unfoldable pub after : List ℕ → List Gate → Change → List Gate
 after s gates c = choose (eqb (answer s gates c .number) 0) (λ _. changed gates c) (λ _. gates)
 

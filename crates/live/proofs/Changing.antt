@@ -27,7 +27,8 @@ use Rattle.live.proofs.Leaving.{holds-less, same-rest}
 
 -- A call that is refused, whatever gates memory represents, leaves it as it was.
 refuses : (s : List ℕ) (c : Change) (m : List ℕ) (number place : ℕ) → (number ≡ 0 → ⊥)
-    → ((gates : List Gate) → Represents s gates m → answer s gates c ≡ refused number place) → (a : Changed) → a ≡ refused number place → Changes Represents s c m a m
+    → ((gates : List Gate) → Represents s gates m → answer s gates c ≡ refused number place) → (a : Changed) → a ≡ refused number place
+    → Changes Represents s c m a m
 unfolding after
 refuses s c m number place n h a e =
     record {

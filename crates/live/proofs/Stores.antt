@@ -1,4 +1,4 @@
--- Words stored one behind the other, and what each function that stores them asks. Assumes nothing.
+-- Words stored one behind the other. Assumes nothing.
 use mathlib.Core.Path.{_≡_, refl, sym, ap, subst, _∙_}
 use mathlib.Core.List.{List}
 use Prim.Native.Nat.{ℕ, _+_, _≤_, _<_}

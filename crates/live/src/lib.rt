@@ -151,8 +151,8 @@ fn refused_by(found: Outcome) -> Changed
     }
 }
 
-// A gate joins, with its row under the format of the list. Costs what measuring does, one pass over format and row, and a pass over the numbers of the
-// gates present; then its 512 lengths are written and the largest raised to them.
+// A gate joins, with its row under the format of the list. Costs what measuring does and a pass over the numbers of the gates present; then its 512
+// lengths are written and the largest raised to them.
 pub fn join<'a>(list: &mut [u32], gate: u32, fmt: &'a [u8], row: &'a [u8]) -> Changed
     requires { ⌜ length (now list) ≡ 66177 ⌝ }
     ensures { λ r. ⌜ Changes Represents (now (fmt .entry)) (joins gate (now (row .entry))) (now (list .entry)) r (now (list .exit)) ⌝ }

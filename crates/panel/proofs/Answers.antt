@@ -1,4 +1,4 @@
--- The answers of the C entries tell every outcome apart: number 0 is acceptance and nothing else. Assumes nothing.
+-- The answers of checking, measuring and printing in C tell every outcome apart: number 0 is acceptance and nothing else. Assumes nothing.
 use mathlib.Core.Path.{_≡_, refl, ap, _∙_}
 use mathlib.Core.List.{List}
 use mathlib.Core.Option.{none}

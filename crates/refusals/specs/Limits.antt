@@ -1,4 +1,4 @@
--- The limits that 01 names.
+-- The limits that 01 and later requests name.
 use Prim.Native.Nat.{ℕ}
 
 -- "format over 4,096 bytes", "over 64 kinds", "a 513th piece begins"

@@ -11,7 +11,7 @@ use borrow.Author.Needs.{needs}
 use Rattle.live.proofs.join.Statement.{statement}
 use Rattle.live.proofs.join.Tie as tie
 
--- the entry and the count, behind the place; the place, behind the pass
+-- from the place that was found back to the entry, the row's bytes and the count; from what the pass gave back to the tests and the place
 abbrev start : tie.After-place-of → tie.Start
 start p = p .before .before .before .before .before .before .before
 

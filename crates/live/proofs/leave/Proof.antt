@@ -6,7 +6,7 @@ use borrow.Author.Needs.{needs}
 use Rattle.live.proofs.leave.Statement.{statement}
 use Rattle.live.proofs.leave.Tie as tie
 
--- the entry and the count, behind the place; the place, behind the lengths taken out
+-- from the place that was found back to the entry and the count; from the lengths taken out back to the test
 abbrev start : tie.After-place-of → tie.Start
 start p = p .before .before .before .before .before
 

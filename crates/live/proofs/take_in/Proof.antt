@@ -7,7 +7,7 @@ use borrow.Author.Needs.{needs}
 use Rattle.live.proofs.take_in.Statement.{statement}
 use Rattle.live.proofs.take_in.Tie as tie
 
--- the entry, behind the lengths written
+-- from the lengths written back to the entry, and from the end back to these
 abbrev start : tie.After-write-lengths → tie.Start
 start w = w .before .before .before .before
 

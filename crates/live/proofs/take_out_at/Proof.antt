@@ -6,7 +6,7 @@ use borrow.Author.Needs.{needs}
 use Rattle.live.proofs.take_out_at.Statement.{statement}
 use Rattle.live.proofs.take_out_at.Tie as tie
 
--- the entry, behind the store
+-- from the store back to the entry
 abbrev start : tie.After-slice-known3 → tie.Start
 start s = s .before .before .before
 
