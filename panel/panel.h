@@ -148,7 +148,7 @@ void panel_list_empty(struct panel_list *list);
 
 /* Takes in a gate with its row. Any number will do that is not present, one that has left too. What panel_measure refuses
    is refused with the same number and place. Costs what panel_measure does, a pass over the numbers of the gates present,
-   and two over 512 lengths. */
+   and one over 512 lengths. */
 struct panel_changed panel_list_join(struct panel_list *list, uint32_t gate, const uint8_t *fmt, size_t fmt_len,
                                      const uint8_t *row, size_t row_len);
 

@@ -31,9 +31,12 @@ pub record Stored (a n : ℕ) (f : ℕ → ℕ) (m m′ : List ℕ) : Type 0 whe
   pub kept : (i : ℕ) → (a ≤ i → i < a + n → ⊥) → getD m′ i 0 ≡ getD m i 0
   pub size : length m′ ≡ length m
 
--- The largest lengths raised to those of the gate whose lengths stand from the word a on.
-abbrev pub raisedTo : List ℕ → ℕ → ℕ → ℕ
-raisedTo m a k = max (longestAt m k) (getD m (a + k) 0)
+-- That the lengths f of a gate's pieces stand from the word a on, the first n of them, and that each largest length is raised to them.
+pub record Entered (a n : ℕ) (f : ℕ → ℕ) (m m′ : List ℕ) : Type 0 where
+  pub own : (k : ℕ) → k < n → getD m′ (a + k) 0 ≡ f k
+  pub raised : (k : ℕ) → k < n → longestAt m′ k ≡ max (longestAt m k) (f k)
+  pub kept : (i : ℕ) → (a ≤ i → i < a + n → ⊥) → (129 ≤ i → i < 129 + n → ⊥) → getD m′ i 0 ≡ getD m i 0
+  pub size : length m′ ≡ length m
 
 -- That a gate was taken in behind the others.
 pub record TakenIn (m : List ℕ) (count n : ℕ) (ends : List ℕ) (pieces : ℕ) (m′ : List ℕ) : Type 0 where

@@ -8,7 +8,7 @@ ghost use lib.ListN.{length};
 ghost use Prim.Native.Nat.{_+_, _≤_, _<_, min, max};
 ghost use Rattle.gates.specs.Gates.{joins, refused, ifMeasured};
 ghost use Rattle.live.specs.Lists.{countOf, Represents};
-ghost use Rattle.live.specs.Steps.{PlaceOf, lengthIn, Stored, raisedTo, TakenIn, columnLargest, TakenOutAt, TakenOut};
+ghost use Rattle.live.specs.Steps.{PlaceOf, lengthIn, Entered, TakenIn, columnLargest, TakenOutAt, TakenOut};
 ghost use Rattle.live.specs.Promises.{Emptied, Changes, Leaves, Lengths};
 
 // The words of a list's memory: how many gates are present, 128 numbers, then 512 largest lengths from LONGEST on, and from LENGTHS on 512 lengths for
@@ -86,26 +86,16 @@ fn larger(a: u32, b: u32) -> u32
     if a < b { b } else { a }
 }
 
-// Writes the lengths of a gate's pieces from the word at on.
-fn write_lengths(list: &mut [u32], at: usize, ends: &[u32], pieces: usize)
-    requires { ⌜ (length (now list) ≡ 66177) × (length (now ends) ≡ 512) × (at + 512 ≤ 66177) ⌝ }
-    ensures { λ r. ⌜ Stored at 512 (lengthIn (now (ends .entry)) pieces) (now (list .entry)) (now (list .exit)) ⌝ }
+// Writes the lengths of a gate's pieces from the word at on, and raises each largest length to them.
+fn enter_lengths(list: &mut [u32], at: usize, ends: &[u32], pieces: usize)
+    requires { ⌜ (length (now list) ≡ 66177) × (length (now ends) ≡ 512) × (641 ≤ at) × (at + 512 ≤ 66177) ⌝ }
+    ensures { λ r. ⌜ Entered at 512 (lengthIn (now (ends .entry)) pieces) (now (list .entry)) (now (list .exit)) ⌝ }
 {
     let mut k = 0;
     while k < refusals::MOST_PIECES {
-        list[at + k] = piece_len(ends, pieces, k);
-        k = k + 1;
-    }
-}
-
-// Raises each largest length to that of the gate whose lengths stand from the word at on.
-fn raise(list: &mut [u32], at: usize)
-    requires { ⌜ (length (now list) ≡ 66177) × (641 ≤ at) × (at + 512 ≤ 66177) ⌝ }
-    ensures { λ r. ⌜ Stored 129 512 (raisedTo (now (list .entry)) at) (now (list .entry)) (now (list .exit)) ⌝ }
-{
-    let mut k = 0;
-    while k < refusals::MOST_PIECES {
-        list[LONGEST + k] = larger(list[LONGEST + k], list[at + k]);
+        let len = piece_len(ends, pieces, k);
+        list[at + k] = len;
+        list[LONGEST + k] = larger(list[LONGEST + k], len);
         k = k + 1;
     }
 }
@@ -116,8 +106,7 @@ fn take_in(list: &mut [u32], count: usize, gate: u32, ends: &[u32], pieces: usiz
     ensures { λ r. ⌜ TakenIn (now (list .entry)) count gate (now (ends .entry)) pieces (now (list .exit)) ⌝ }
 {
     let at = LENGTHS + refusals::MOST_PIECES * count;
-    write_lengths(list, at, ends, pieces);
-    raise(list, at);
+    enter_lengths(list, at, ends, pieces);
     list[1 + count] = gate;
     list[0] = (count + 1) as u32;
 }
@@ -151,8 +140,8 @@ fn refused_by(found: Outcome) -> Changed
     }
 }
 
-// A gate joins, with its row under the format of the list. Costs what measuring does and a pass over the numbers of the gates present; then its 512
-// lengths are written and the largest raised to them.
+// A gate joins, with its row under the format of the list. Costs what measuring does, a pass over the numbers of the gates present, and one over 512
+// lengths.
 pub fn join<'a>(list: &mut [u32], gate: u32, fmt: &'a [u8], row: &'a [u8]) -> Changed
     requires { ⌜ length (now list) ≡ 66177 ⌝ }
     ensures { λ r. ⌜ Changes Represents (now (fmt .entry)) (joins gate (now (row .entry))) (now (list .entry)) r (now (list .exit)) ⌝ }

@@ -1,5 +1,4 @@
 -- `live::take_in` meets its contract. Assumes nothing.
-use mathlib.Core.Path.{_∙_}
 use native.Mathlib.Omega.{arith}
 use lib.ListN.{length-set}
 use Rattle.live.proofs.Ins.{taken-in}
@@ -7,12 +6,12 @@ use borrow.Author.Needs.{needs}
 use Rattle.live.proofs.take_in.Statement.{statement}
 use Rattle.live.proofs.take_in.Tie as tie
 
--- from the lengths written back to the entry, and from the end back to these
-abbrev start : tie.After-write-lengths → tie.Start
-start w = w .before .before .before .before
+-- from the end back to the lengths entered, and from there to the entry
+abbrev entered : tie.After-slice-known2 → tie.After-enter-lengths
+entered c = c .before .before
 
-abbrev written : tie.After-slice-known3 → tie.After-write-lengths
-written c = c .before .before .before .before .before .before
+abbrev start : tie.After-enter-lengths → tie.Start
+start w = w .before .before .before .before
 
 mul-at : tie.Need-mul-at
 mul-at c = search needs
@@ -20,11 +19,8 @@ mul-at c = search needs
 add-at : tie.Need-add-at
 add-at c = search needs
 
-write-lengths-requires : tie.Need-write-lengths-requires
-write-lengths-requires c κs = search needs
-
-raise-requires : tie.Need-raise-requires
-raise-requires c κs = search needs
+enter-lengths-requires : tie.Need-enter-lengths-requires
+enter-lengths-requires c κs = search needs
 
 add-list : tie.Need-add-list
 add-list c = search needs
@@ -43,19 +39,17 @@ cast-list c = search needs
 
 slice-write-list-2 : tie.Need-slice-write-list-2
 slice-write-list-2 c =
-    let w = written c in
-    simp length-set (omega (arith, c .before .before .raise .ensures .size, w .write-lengths .ensures .size, start w .pre))
+    let w = entered c in simp length-set (omega (arith, w .enter-lengths .ensures .size, start w .pre))
 
 same-length : tie.Need-same-length
-same-length c = simp length-set (c .before .before .raise .ensures .size ∙ written c .write-lengths .ensures .size)
+same-length c = simp length-set (entered c .enter-lengths .ensures .size)
 
 returns : tie.Need-returns
 returns c =
-    let w = written c in
+    let w = entered c in
     let s = start w in
     let a = s .args in
-    taken-in (a .list .now) _ _ (a .count) (a .gate) (a .ends .now) (a .pieces) (s .pre .0) (s .pre .2) (w .write-lengths .ensures)
-    (c .before .before .raise .ensures)
+    taken-in (a .list .now) _ (a .count) (a .gate) (a .ends .now) (a .pieces) (s .pre .0) (s .pre .2) (w .enter-lengths .ensures)
 
 pub take-in-spec : {M : Type 1} → statement M
 take-in-spec =
@@ -63,8 +57,7 @@ take-in-spec =
     (tie.spec
     mul-at
     add-at
-    write-lengths-requires
-    raise-requires
+    enter-lengths-requires
     add-list
     mul-list
     slice-write-list
