@@ -1,8 +1,8 @@
 -- `live::enter_lengths` meets its contract. Assumes nothing.
-use Prim.Native.Nat.{ℕ, _-_, _≤_}
+use Prim.Native.Nat.{ℕ, _+_, _-_, _≤_, _<_}
 use mathlib.Core.Path.{_≡_, subst}
 use native.Mathlib.Omega.{arith}
-use lib.ListN.{length-set}
+use lib.ListN.{length, length-set}
 use borrow.Author.Needs.{needs}
 use Rattle.live.specs.Steps.{lengthIn, Entered}
 use Rattle.live.proofs.Ins.{entered-none, entered-more}
@@ -49,7 +49,8 @@ mul-list-2 : tie.Need-mul-list-2 Inv-loop μ-loop
 mul-list-2 c = search needs
 
 slice-write-list-2 : tie.Need-slice-write-list-2 Inv-loop μ-loop
-slice-write-list-2 c = simp length-set (omega (arith, c .before .before .before .before .loop .inv .1 .size, c .before .before .before .before .before .before .before .pre))
+slice-write-list-2 c =
+    let at-loop = c .before .before .before .before in simp length-set (omega (arith, at-loop .loop .inv .1 .size, at-loop .before .before .before .pre))
 
 add-k : tie.Need-add-k Inv-loop μ-loop
 add-k c = search needs
@@ -61,11 +62,12 @@ loop-again : tie.Need-loop-again Inv-loop μ-loop
 loop-again c =
     let l = c .before .before .before .before .loop in
     let s = c .before .before .before .before .before .before .before in
-    let p = c .before .before .piece-len in (
-      omega arith,
-      entered-more (s .args .at) (l .k) (p .result) (c .larger .result) (lengthIn (s .args .ends .now) (s .args .pieces)) (s .args .list .now) (l .list)
-          (s .pre .2) (omega (arith, s .pre)) (omega arith) (l .inv .1) (p .ensures) (c .larger .ensures),
-    )
+    let p = c .before .before .piece-len in
+    let f = lengthIn (s .args .ends .now) (s .args .pieces) in
+    let room : s .args .at + 512 ≤ length (s .args .list .now) = omega (arith, s .pre) in
+    let k : l .k < 512 = omega arith in
+    let more = entered-more (s .args .at) (l .k) (p .result) (c .larger .result) f (s .args .list .now) (l .list) (s .pre .2) room k in
+    (omega arith, more (l .inv .1) (p .ensures) (c .larger .ensures))
 
 same-length : tie.Need-same-length Inv-loop μ-loop
 same-length c = c .before .loop .inv .1 .size
