@@ -1,5 +1,5 @@
--- The C entries of checking, measuring and printing. 01: "The panel's host program in C calls checking, measuring and printing on numbers and byte slices; ends pass there as 4
--- little-endian bytes each, and up to 3 bytes left over are never written."
+-- The C entries of checking, measuring and printing. 01: "The panel's host program in C calls checking, measuring and printing on numbers and byte
+-- slices; ends pass there as 4 little-endian bytes each, and up to 3 bytes left over are never written."
 use Prim.Native.Nat.{ℕ, _/_, _≤_}
 use mathlib.Core.Path.{_≡_}
 use mathlib.Core.List.{List, [], _∷_}
