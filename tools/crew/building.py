@@ -13,10 +13,17 @@ from progress import Progress
 
 
 def crates_to_prove():
-    """How many crates the library is made of."""
+    """How many crates the library is made of: panel, and what it needs at one or more removes."""
     with open(os.path.join(ROOT, "crates.txt"), encoding="utf-8") as file:
-        needs = next(line for line in file if line.startswith("panel:"))
-    return len([name for name in needs.split()[1:] if os.path.isdir(os.path.join(ROOT, "crates", name))]) + 1
+        lines = [line.partition("#")[0].partition(":") for line in file]
+    needs = {name.strip(): words.split() for name, colon, words in lines if colon}
+    found, left = set(), ["panel"]
+    while left:
+        name = left.pop()
+        if name not in found:
+            found.add(name)
+            left += needs.get(name, [])
+    return len([name for name in found if name == "panel" or os.path.isdir(os.path.join(ROOT, "crates", name))])
 
 
 def run_step(words, on_line):

@@ -1,2 +1,3 @@
+pub mod LineTexts
 mod Parts
 mod Printed

@@ -7,7 +7,7 @@ use lib.ListN.{length, take, drop, length-drop}
 use lib.Seq.{take-all}
 use borrow.Author.Tests.{le-leb, lt-leb}
 use Rattle.writing.specs.Text.{ascii}
-use Rattle.lines.specs.Lines.{line}
+use Rattle.answers.specs.Lines.{line}
 use Rattle.answers.specs.Answers.{lengthOf, formatOf, rowOf, printedAnswer, answerText}
 
 module _ (s : List ℕ) where

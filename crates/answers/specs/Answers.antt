@@ -6,7 +6,7 @@ use lib.Dec.{leb}
 use lib.ListN.{length, take, drop}
 use Rattle.writing.specs.Choose.{choose}
 use Rattle.writing.specs.Text.{ascii}
-use Rattle.lines.specs.Lines.{line, numbersLine, endLines}
+use Rattle.answers.specs.Lines.{line, numbersLine, endLines}
 use Rattle.words.specs.LittleEndian.{wordAt}
 use Rattle.outcomes.specs.Printed.{texts, printedText, endsFrom, printed}
 use Rattle.outcomes.specs.declared.Outcome.{Outcome}

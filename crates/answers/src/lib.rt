@@ -1,4 +1,6 @@
 // The whole answer of the program `sheet` to its input, made in a lent slice. crates/sheet/README.md has the layout of both.
+pub mod lines;
+
 use outcomes::Outcome;
 ghost use Prim.Native.Nat.{_≤_};
 ghost use lib.ListN.{length};

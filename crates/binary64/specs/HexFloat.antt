@@ -3,8 +3,8 @@ use Prim.Native.Nat.{ℕ, _+_, _-_, _/_, _^_, max}
 use mathlib.Core.Bool.{true, false}
 use lib.Dec.{ltb, eqb}
 use Rattle.writing.specs.Choose.{choose}
-use Rattle.params.specs.declared.NumericParam.{NumericParam}
-use Rattle.params.specs.declared.NumericParam.the-variants.{Literal, FromArgument}
+use Rattle.numerals.specs.declared.NumericParam.{NumericParam}
+use Rattle.numerals.specs.declared.NumericParam.the-variants.{Literal, FromArgument}
 use Rattle.binary64.specs.Fields.{exponentField, fractionField, scaledBits}
 use Rattle.binary64.specs.Rounding.{nearestTo, keptDigits}
 use Rattle.binary64.specs.declared.HexFloat.{HexFloat}

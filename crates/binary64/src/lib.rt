@@ -1,7 +1,7 @@
 // binary64 values: fields, category, exact scaling, rounding, and the parts of their hexadecimal text.
 // Ported in part from format_string.rs of datafusion-spark 55.2.0 (Apache-2.0; see NOTICE): FloatBits::to_parts,
 // trim_trailing_0s_hex, and the digits of format_hex_float.
-use params::NumericParam;
+use numerals::NumericParam;
 ghost use mathlib.Core.Path.{_≡_};
 ghost use Prim.Native.Nat.{_^_, _≤_, _<_};
 ghost use Rattle.binary64.specs.Fields.{negative, exponentField, fractionField, categoryOf, scaledBits};

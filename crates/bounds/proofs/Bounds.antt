@@ -12,9 +12,9 @@ use Rattle.writing.proofs.Choose.{by-test}
 use Rattle.specifiers.specs.Specifier.{beginsWith, specifierAt}
 use Rattle.specifiers.specs.declared.Specifier.{Specifier}
 use Rattle.specifiers.specs.declared.Specifier.the-variants as S
-use Rattle.arguments.specs.declared.Index.{Index}
-use Rattle.arguments.specs.declared.Index.the-variants as I
-use Rattle.scanning.specs.Texts.{textLength}
+use Rattle.parsing.specs.declared.arguments.Index.{Index}
+use Rattle.parsing.specs.declared.arguments.Index.the-variants as I
+use Rattle.parsing.specs.Texts.{textLength}
 use Rattle.parsing.specs.Pieces.{start, argumentAt, afterSpecifier, afterIndex, elementAt, pieceAt}
 use Rattle.parsing.specs.Listed.{Placed, andRest, placedFrom, placed}
 use Rattle.parsing.specs.declared.Cursor.{Cursor}
@@ -22,7 +22,7 @@ use Rattle.parsing.specs.declared.Step.{Step}
 use Rattle.parsing.specs.declared.Step.the-variants.{Found, Refused}
 use Rattle.rows.specs.Row.{countOf, kindsOf, textArea, kindByteOf, valueOf, namedText, isRow}
 use Rattle.rows.proofs.Rows.{AllBytes, value-below, row-shape}
-use Rattle.pieces.specs.PieceTexts.{shownPiece, pieceText}
+use Rattle.elements.specs.PieceTexts.{shownPiece, pieceText}
 use Rattle.outcomes.specs.Printed.{textsOf, texts}
 use Rattle.bounds.proofs.Elements.{SpecifierLimited, specifier-limited}
 use Rattle.bounds.proofs.Frames.{Short, Body}

@@ -11,16 +11,16 @@ use Rattle.writing.specs.Text.{ascii, has}
 use Rattle.writing.proofs.Choose.{by-test}
 use Rattle.numerals.specs.Digits.{places}
 use Rattle.numerals.proofs.Digits.{length-lettersIn, twenty-places}
-use Rattle.integers.specs.Integers.{intOf, isNegative}
-use Rattle.letters.specs.Letters.{lookup}
-use Rattle.letters.specs.declared.TimeFormat.{TimeFormat}
+use Rattle.numerals.specs.Integers.{intOf, isNegative}
+use Rattle.kinds.specs.Letters.{lookup}
+use Rattle.kinds.specs.declared.letters.TimeFormat.{TimeFormat}
 use Rattle.calendar.specs.Dates.{dayNumber, dateOf}
 use Rattle.calendar.specs.Moments.{sinceYear0, ordinalOf, momentOf}
 use Rattle.calendar.specs.declared.Moment.{Moment}
 use Rattle.calendar.proofs.Only.{year-long, the-only-date}
 use Rattle.calendar.proofs.Epoch.{magnitude-within, seconds-range}
-use Rattle.components.specs.Names.{monthNames, weekdayNames, nameOf}
-use Rattle.components.specs.Components.{
+use Rattle.dates.specs.Names.{monthNames, weekdayNames, nameOf}
+use Rattle.dates.specs.Components.{
   atLeast,
   numberText,
   clock12,
@@ -34,7 +34,7 @@ use Rattle.components.specs.Components.{
   symbolsText,
   componentText,
 }
-use Rattle.components.specs.Steps.{room, roomFor}
+use Rattle.dates.specs.Steps.{room, roomFor}
 use Rattle.dates.proofs.Symbols.{room-of-pattern}
 
 -- What holds of every row of a table, and of what is given for no key, holds of what is found.

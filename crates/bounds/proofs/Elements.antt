@@ -7,19 +7,19 @@ use native.Mathlib.Omega.{arith}
 use lib.ListN.{length, drop}
 use Rattle.refusals.specs.Limits.{largestNumber}
 use Rattle.writing.proofs.Choose.{by-test}
-use Rattle.params.specs.Params.{isParam, numberAt, paramOf, paramAt, widthOf}
-use Rattle.params.specs.declared.NumericParam.{NumericParam}
-use Rattle.params.specs.declared.NumericParam.the-variants.{Literal, FromArgument}
-use Rattle.params.specs.declared.Number.{Number}
-use Rattle.params.specs.declared.Number.the-variants as N
-use Rattle.params.specs.declared.Taken.{Taken}
-use Rattle.params.specs.declared.Taken.the-variants.{Param, TooLarge}
-use Rattle.params.proofs.Params.{NumberIn, number-in}
-use Rattle.conversions.specs.Kinds.{fitsKind}
-use Rattle.flags.specs.Flags.{flagsAt}
-use Rattle.flags.specs.declared.Flags.{Flags}
-use Rattle.flags.specs.declared.FlagsTaken.{FlagsTaken}
-use Rattle.flags.specs.declared.FlagsTaken.the-variants as F
+use Rattle.specifiers.specs.Params.{isParam, numberAt, paramOf, paramAt, widthOf}
+use Rattle.numerals.specs.declared.NumericParam.{NumericParam}
+use Rattle.numerals.specs.declared.NumericParam.the-variants.{Literal, FromArgument}
+use Rattle.specifiers.specs.declared.params.Number.{Number}
+use Rattle.specifiers.specs.declared.params.Number.the-variants as N
+use Rattle.specifiers.specs.declared.params.Taken.{Taken}
+use Rattle.specifiers.specs.declared.params.Taken.the-variants.{Param, TooLarge}
+use Rattle.specifiers.proofs.Numbers.{NumberIn, number-in}
+use Rattle.kinds.specs.Kinds.{fitsKind}
+use Rattle.specifiers.specs.Flags.{flagsAt}
+use Rattle.specifiers.specs.declared.flags.Flags.{Flags}
+use Rattle.specifiers.specs.declared.flags.FlagsTaken.{FlagsTaken}
+use Rattle.specifiers.specs.declared.flags.FlagsTaken.the-variants as F
 use Rattle.specifiers.specs.Specifier.{
   beginsWith,
   precisionAt,

@@ -6,8 +6,8 @@ use lib.Dec.{eqb, ltb}
 use borrow.Author.Tests.{ltb-true}
 use Rattle.refusals.specs.Limits.{largestNumber}
 use Rattle.writing.proofs.Choose.{by-test}
-use Rattle.params.specs.declared.NumericParam.{NumericParam}
-use Rattle.params.specs.declared.NumericParam.the-variants.{Literal, FromArgument}
+use Rattle.numerals.specs.declared.NumericParam.{NumericParam}
+use Rattle.numerals.specs.declared.NumericParam.the-variants.{Literal, FromArgument}
 use Rattle.binary64.specs.Fields.{exponentField, fractionField, scaledBits}
 use Rattle.binary64.specs.Rounding.{nearestTo}
 use Rattle.binary64.specs.HexFloat.{shortest, carried, rounded, normalOf, subnormalOf, hexFloatOf}

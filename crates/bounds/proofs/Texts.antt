@@ -14,9 +14,9 @@ use Rattle.numerals.specs.declared.Radix.{Radix}
 use Rattle.numerals.specs.declared.Radix.the-variants as R
 use Rattle.numerals.proofs.Digits.{length-numeral, twenty-places}
 use Rattle.numerals.proofs.Bases.{based-places}
-use Rattle.grouping.proofs.Grouping.{length-grouped-decimal}
-use Rattle.integers.specs.Integers.{intOf, isNegative}
-use Rattle.params.specs.Params.{widthOf}
+use Rattle.numerals.proofs.Commas.{length-grouped-decimal}
+use Rattle.numerals.specs.Integers.{intOf, isNegative}
+use Rattle.specifiers.specs.Params.{widthOf}
 use Rattle.frames.specs.declared.Mark.{Mark}
 use Rattle.frames.specs.declared.Mark.the-variants.{NoMark}
 use Rattle.frames.specs.declared.Prefix.{Prefix}
@@ -27,22 +27,22 @@ use Rattle.binary64.specs.declared.FpCategory.{FpCategory}
 use Rattle.binary64.specs.declared.FpCategory.the-variants as C
 use Rattle.hexfloats.specs.Texts.{hexFloatText}
 use Rattle.calendar.proofs.Epoch.{magnitude-within}
-use Rattle.letters.specs.declared.TimeFormat.{TimeFormat}
-use Rattle.conversions.specs.Kinds.{printsAs}
-use Rattle.conversions.specs.declared.IntegerForm.{IntegerForm}
-use Rattle.conversions.specs.declared.IntegerForm.the-variants.{Numeral, Scalar, Digits}
-use Rattle.conversions.specs.declared.Form.{Form}
-use Rattle.conversions.specs.declared.Form.the-variants as F
+use Rattle.kinds.specs.declared.letters.TimeFormat.{TimeFormat}
+use Rattle.kinds.specs.Kinds.{printsAs}
+use Rattle.kinds.specs.declared.IntegerForm.{IntegerForm}
+use Rattle.kinds.specs.declared.IntegerForm.the-variants.{Numeral, Scalar, Digits}
+use Rattle.kinds.specs.declared.Form.{Form}
+use Rattle.kinds.specs.declared.Form.the-variants as F
 use Rattle.specifiers.specs.declared.Element.{Element}
-use Rattle.entries.specs.Entry.{isNull}
-use Rattle.scalars.specs.Scalars.{isScalar, utf8Of}
-use Rattle.scalars.proofs.Scalars.{scalar-length}
-use Rattle.strings.specs.Cut.{cutTo, cased}
-use Rattle.strings.proofs.Cuts.{cut-shorter}
-use Rattle.strings.proofs.Cased.{length-cased}
+use Rattle.rows.specs.Entry.{isNull}
+use Rattle.utf8.specs.Scalars.{isScalar, utf8Of}
+use Rattle.utf8.proofs.ScalarValues.{scalar-length}
+use Rattle.fields.specs.Cut.{cutTo, cased}
+use Rattle.fields.proofs.Cuts.{cut-shorter}
+use Rattle.fields.proofs.Cased.{length-cased}
 use Rattle.numbers.specs.Numbers.{fill, paddedNumber, integerMark, commas, hexPrefix, numeralText, floatMark}
 use Rattle.fields.specs.Texts.{side, paddedText, formatString, signedText}
-use Rattle.components.specs.Components.{isEarlyFraction}
+use Rattle.dates.specs.Components.{isEarlyFraction}
 use Rattle.elements.specs.Texts.{Shown, integerText, floatText, timeText, valueText, elementText, textOf}
 use Rattle.bounds.proofs.Elements.{Limited, width-within}
 use Rattle.bounds.proofs.Frames.{Short, Body, padded-short}

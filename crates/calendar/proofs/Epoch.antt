@@ -5,8 +5,8 @@ use mathlib.Core.Bool.{Bool, true, false, true≢false}
 use native.Mathlib.Omega.{arith}
 use native.Mathlib.Decide.{decLt}
 use lib.IntN.{ℤ, pos, negsuc, natAbs}
-use Rattle.integers.specs.Integers.{intOf, isNegative}
-use Rattle.integers.proofs.Integers.{magnitude-low, magnitude-high}
+use Rattle.numerals.specs.Integers.{intOf, isNegative}
+use Rattle.numerals.proofs.TwosComplement.{magnitude-low, magnitude-high}
 use Rattle.calendar.specs.Dates.{isLeap, daysOf, yearLength, dayNumber, yearDay, monthDay, dateOf}
 use Rattle.calendar.specs.Moments.{epochDay, sinceYear0, weekdayOf, ordinalOf, momentOf}
 use Rattle.calendar.proofs.Only.{year-and-day}

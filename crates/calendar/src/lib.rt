@@ -1,7 +1,7 @@
 // The calendar: the date, the weekday and the time of day of a timestamp.
 ghost use mathlib.Core.Path.{_≡_};
 ghost use Prim.Native.Nat.{_/_, _%_, _≤_, _<_};
-ghost use Rattle.integers.specs.Integers.{intOf};
+ghost use Rattle.numerals.specs.Integers.{intOf};
 ghost use Rattle.calendar.specs.Dates.{isLeap, daysOf, monthLength, yearLength, yearDay, monthDay};
 ghost use Rattle.calendar.specs.Moments.{sinceYear0, momentOf};
 ghost use Rattle.calendar.specs.Steps.{evened};
@@ -103,8 +103,8 @@ struct Seconds {
 fn seconds_of(timestamp: u64) -> Seconds
     ensures { λ r. ⌜ (r .seconds ≡ sinceYear0 (intOf 64 timestamp) / 1000000000) × (r .nanos ≡ sinceYear0 (intOf 64 timestamp) % 1000000000) ⌝ }
 {
-    let magnitude = integers::magnitude(timestamp);
-    if integers::is_negative(timestamp) {
+    let magnitude = numerals::integers::magnitude(timestamp);
+    if numerals::integers::is_negative(timestamp) {
         let back = (magnitude + 999999999) / 1000000000;
         return Seconds {
             seconds: EPOCH_SECONDS - back,

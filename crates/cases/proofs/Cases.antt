@@ -3,9 +3,9 @@ use lib.Dec.{T}
 use lib.Ieee.{mul, ofBits, toBits}
 use Rattle.writing.specs.Text.{has}
 use Rattle.numerals.specs.Digits.{digitsIn, placesWithin, places, digits, numberFrom, numberOf, letterOf, lettersOf, numeral}
-use Rattle.grouping.specs.Grouping.{grouped}
-use Rattle.integers.specs.Integers.{intOf}
-use Rattle.params.specs.Params.{leadingDigits, numberTaken, numberAt, paramAt}
+use Rattle.numerals.specs.Grouping.{grouped}
+use Rattle.numerals.specs.Integers.{intOf}
+use Rattle.specifiers.specs.Params.{leadingDigits, numberTaken, numberAt, paramAt}
 use Rattle.words.specs.LittleEndian.{littleEndian, wordAt}
 use Rattle.frames.specs.Frame.{spaces, headText, tailText, framed, spare, frameOf, padded}
 use Rattle.binary64.specs.Fields.{negative, exponentField, fractionField, categoryOf, scaledBits}
@@ -13,23 +13,23 @@ use Rattle.binary64.specs.HexFloat.{shortest, rounded, hexFloatOf}
 use Rattle.binary64.specs.Rounding.{nearestTo, keptDigits}
 use Rattle.hexfloats.specs.Texts.{exponentText, hexFloatText}
 use Rattle.utf8.specs.Utf8.{leadOf, wellFormedFrom, wellFormed}
-use Rattle.letters.specs.Letters.{timeOf, smallOf, capitalOf}
-use Rattle.conversions.specs.Kinds.{kindOf, isIntegerKind, integerForm, fitsKind, printsAs}
-use Rattle.flags.specs.Flags.{leadingFlags, firstClash, flagsAt}
+use Rattle.kinds.specs.Letters.{timeOf, smallOf, capitalOf}
+use Rattle.kinds.specs.Kinds.{kindOf, isIntegerKind, integerForm, fitsKind, printsAs}
+use Rattle.specifiers.specs.Flags.{leadingFlags, firstClash, flagsAt}
 use Rattle.specifiers.specs.Specifier.{precisionAt, letterAt, partsAt, specifierAt}
-use Rattle.arguments.specs.Indexes.{indexAt}
-use Rattle.scanning.specs.Texts.{textLength}
+use Rattle.parsing.specs.Indexes.{indexAt}
+use Rattle.parsing.specs.Texts.{textLength}
 use Rattle.parsing.specs.Pieces.{argumentAt, elementAt, pieceAt}
 use Rattle.parsing.specs.Listed.{placedFrom, endFrom, placed, ended}
-use Rattle.scalars.specs.Scalars.{utf8Of}
-use Rattle.strings.specs.Cut.{capital, backTo, cutLength, cutTo, cased}
+use Rattle.utf8.specs.Scalars.{utf8Of}
+use Rattle.fields.specs.Cut.{capital, backTo, cutLength, cutTo, cased}
 use Rattle.rows.specs.Row.{namedText, entryAt, entriesFrom, isRow}
 use Rattle.calendar.specs.Dates.{isLeap, daysOf, yearLength, dayNumber, countOff, yearDay, dateOf}
 use Rattle.calendar.specs.Moments.{epochDay, sinceYear0, weekdayOf, ordinalOf, momentOf}
-use Rattle.components.specs.Names.{nameOf}
-use Rattle.components.specs.Components.{numberText, clock12, half, signText, nameText, symbolText, symbolsText, componentText, isEarlyFraction}
+use Rattle.dates.specs.Names.{nameOf}
+use Rattle.dates.specs.Components.{numberText, clock12, half, signText, nameText, symbolText, symbolsText, componentText, isEarlyFraction}
 use Rattle.elements.specs.Texts.{elementText}
-use Rattle.pieces.specs.PieceTexts.{shownPiece}
+use Rattle.elements.specs.PieceTexts.{shownPiece}
 use Rattle.outcomes.specs.Printed.{textsOf, texts, joined, printedText, firstStop, measuredEnd, measured}
 use Rattle.cases.specs.Cases.{cases, ours, dates, secondHolds, allHold}
 

@@ -8,7 +8,7 @@ use lib.Dec.{eqb}
 use lib.ListN.{length}
 use Rattle.words.specs.LittleEndian.{bytesOf}
 use Rattle.reading.specs.Examples.{same}
-use Rattle.scalars.specs.Scalars.{utf8Of}
+use Rattle.utf8.specs.Scalars.{utf8Of}
 use Rattle.outcomes.specs.Printed.{printedText, measured}
 use Rattle.outcomes.specs.declared.Outcome.{Outcome}
 use Rattle.outcomes.specs.declared.Outcome.the-variants.{Accepted, Refused}

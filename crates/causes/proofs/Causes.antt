@@ -12,7 +12,7 @@ use borrow.Author.Tests.{le-leb}
 use Rattle.refusals.specs.Limits.{mostFormat, mostKinds, largestEnd}
 use Rattle.writing.proofs.Choose.{both}
 use Rattle.utf8.specs.Utf8.{wellFormed}
-use Rattle.conversions.specs.Kinds.{allKnown}
+use Rattle.kinds.specs.Kinds.{allKnown}
 use Rattle.parsing.specs.Check.{largestOf, checkedEnd, checked}
 use Rattle.parsing.specs.Listed.{placed}
 use Rattle.parsing.specs.declared.Checked.the-variants as C

@@ -11,7 +11,7 @@ use borrow.Author.Tests.{eqb-true, eq-eqb, le-leb, lt-leb}
 use Rattle.refusals.specs.Limits.{mostKinds}
 use Rattle.writing.specs.Text.{has}
 use Rattle.writing.proofs.Choose.{both}
-use Rattle.conversions.specs.Kinds.{kindOf, isKnown, allKnown}
+use Rattle.kinds.specs.Kinds.{kindOf, isKnown, allKnown}
 use Rattle.grammar.specs.Runs.{all}
 use Rattle.grammar.specs.Elements.{kinds}
 use Rattle.grammar.proofs.Letters.{never, all-has, known-kind}

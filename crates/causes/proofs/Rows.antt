@@ -11,7 +11,7 @@ use lib.ListN.{length, getD}
 use borrow.Author.Tests.{le-leb}
 use Rattle.refusals.specs.Limits.{mostFormat, mostKinds}
 use Rattle.utf8.specs.Utf8.{wellFormed}
-use Rattle.conversions.specs.Kinds.{kindOf, isKnown, allKnown}
+use Rattle.kinds.specs.Kinds.{kindOf, isKnown, allKnown}
 use Rattle.parsing.specs.Check.{checkedEnd, checked}
 use Rattle.parsing.specs.Listed.{placed, ended}
 use Rattle.parsing.specs.declared.Checked.{Checked}

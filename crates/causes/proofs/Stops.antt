@@ -8,9 +8,9 @@ use lib.IntN.{ℤ}
 use lib.ListN.{length}
 use Rattle.writing.specs.Text.{ascii, has}
 use Rattle.writing.proofs.Choose.{both}
-use Rattle.integers.specs.Integers.{intOf}
-use Rattle.conversions.specs.Kinds.{formOf, printsAs}
-use Rattle.conversions.specs.declared.Form.{Form}
+use Rattle.numerals.specs.Integers.{intOf}
+use Rattle.kinds.specs.Kinds.{formOf, printsAs}
+use Rattle.kinds.specs.declared.Form.{Form}
 use Rattle.specifiers.specs.declared.Element.{Element}
 use Rattle.parsing.specs.Listed.{Placed}
 use Rattle.parsing.specs.declared.Piece.{Piece}
@@ -22,10 +22,10 @@ use Rattle.grammar.specs.Pieces.{ElementIs, PieceIs, Lists}
 use Rattle.grammar.specs.Pieces as Q
 use Rattle.grammar.proofs.Arguments.{OfElement, Each}
 use Rattle.grammar.proofs.Letters.{never}
-use Rattle.entries.specs.Entry.{isNull}
+use Rattle.rows.specs.Entry.{isNull}
 use Rattle.rows.specs.Row.{namedText, kindByteOf, valueOf}
 use Rattle.elements.specs.Texts.{elementText, stopOf}
-use Rattle.pieces.specs.PieceTexts.{shownPiece, pieceStop}
+use Rattle.elements.specs.PieceTexts.{shownPiece, pieceStop}
 use Rattle.outcomes.specs.Printed.{Stop, stopAt, firstStop}
 use Rattle.causes.specs.Causes.{printsBytes, isScalarValue, isBetweenSeconds, Unprinted, not-printed, no-scalar, no-whole-second}
 use Rattle.causes.specs.Causes.{PartPrinted, AllPrinted, FirstUnprinted, here, earlier}

@@ -13,17 +13,17 @@ use borrow.Author.Tests.{eqb-true, eq-eqb, ne-eqb, le-leb, lt-leb, lt-ltb, le-lt
 use Rattle.writing.specs.Choose.{choose}
 use Rattle.writing.specs.Text.{ascii, has}
 use Rattle.writing.proofs.Choose.{both}
-use Rattle.integers.specs.Integers.{intOf, isNegative}
-use Rattle.letters.specs.Letters.{timeOf, smallOf, capitalOf}
-use Rattle.conversions.specs.Kinds.{integerForm, onlyIf, formOf}
-use Rattle.letters.specs.declared.ConversionType.{ConversionType}
-use Rattle.letters.specs.declared.ConversionType.the-variants as C
-use Rattle.conversions.specs.declared.IntegerForm.the-variants.{Numeral, Scalar, Digits}
-use Rattle.conversions.specs.declared.Form.{Form}
-use Rattle.conversions.specs.declared.Form.the-variants as F
-use Rattle.letters.specs.declared.TimeFormat.{TimeFormat}
-use Rattle.letters.specs.declared.TimeLetter.{TimeLetter}
-use Rattle.letters.specs.declared.TimeLetter.the-variants.{Component, NoComponent}
+use Rattle.numerals.specs.Integers.{intOf, isNegative}
+use Rattle.kinds.specs.Letters.{timeOf, smallOf, capitalOf}
+use Rattle.kinds.specs.Kinds.{integerForm, onlyIf, formOf}
+use Rattle.kinds.specs.declared.letters.ConversionType.{ConversionType}
+use Rattle.kinds.specs.declared.letters.ConversionType.the-variants as C
+use Rattle.kinds.specs.declared.IntegerForm.the-variants.{Numeral, Scalar, Digits}
+use Rattle.kinds.specs.declared.Form.{Form}
+use Rattle.kinds.specs.declared.Form.the-variants as F
+use Rattle.kinds.specs.declared.letters.TimeFormat.{TimeFormat}
+use Rattle.kinds.specs.declared.letters.TimeLetter.{TimeLetter}
+use Rattle.kinds.specs.declared.letters.TimeLetter.the-variants.{Component, NoComponent}
 use Rattle.specifiers.specs.Specifier.{timeLetter, secondLetter, letterFrom}
 use Rattle.specifiers.specs.declared.Element.{Element}
 use Rattle.specifiers.specs.declared.LetterTaken.{LetterTaken}
@@ -32,8 +32,8 @@ use Rattle.grammar.specs.Runs.{begins, all}
 use Rattle.grammar.specs.Elements.{letters, kinds, inTable}
 use Rattle.grammar.proofs.Total.{has-none}
 use Rattle.grammar.proofs.Letters.{never, all-has, same, same-is, one, not-time, either-time, eight, second, no-letter-is}
-use Rattle.scalars.specs.Scalars.{isScalar}
-use Rattle.components.specs.Components.{isEarlyFraction}
+use Rattle.utf8.specs.Scalars.{isScalar}
+use Rattle.dates.specs.Components.{isEarlyFraction}
 use Rattle.elements.specs.Texts.{Text, charText, timeText, valueText, stopOf}
 use Rattle.causes.specs.Causes.{printedFor, printsBytes, isScalarValue, isBetweenSeconds}
 

@@ -8,13 +8,13 @@ use lib.IntN.{ℤ, pos, negsuc}
 use lib.ListN.{length}
 use Rattle.refusals.specs.Limits.{mostFormat, mostKinds, largestEnd}
 use Rattle.writing.specs.Text.{ascii, has}
-use Rattle.integers.specs.Integers.{intOf}
+use Rattle.numerals.specs.Integers.{intOf}
 use Rattle.utf8.specs.Utf8.{wellFormed}
 use Rattle.grammar.specs.Runs.{begins}
 use Rattle.grammar.specs.Parts.{Written, Part, text, percent, newline, element, bytesBefore}
 use Rattle.grammar.specs.Elements.{kinds, inTable}
 use Rattle.grammar.specs.Readings.{Whole, StopsReading}
-use Rattle.entries.specs.Entry.{isNull}
+use Rattle.rows.specs.Entry.{isNull}
 use Rattle.rows.specs.Row.{kindByteOf, valueOf, isRow}
 use Rattle.outcomes.specs.Printed.{printedText}
 use Rattle.causes.specs.Calls.{Call, checking, printing, formatIn, kindsIn, OfRow}

@@ -8,29 +8,29 @@ use mathlib.Core.Option.{none}
 use native.Mathlib.Omega.{arith}
 use lib.Dec.{eqb}
 use Rattle.writing.specs.Text.{ascii, has}
-use Rattle.integers.specs.Integers.{intOf, bitsOf}
+use Rattle.numerals.specs.Integers.{intOf, bitsOf}
 use Rattle.binary64.specs.Fields.{categoryOf}
 use Rattle.binary64.specs.declared.FpCategory.the-variants.{Finite}
 use Rattle.reading.specs.Reading.{Integer, Bits, readPiece}
-use Rattle.letters.specs.Letters.{lookup}
-use Rattle.conversions.specs.Kinds.{integerKinds, kindOf, integerForm, onlyIf, formOf, printsAs}
-use Rattle.letters.specs.declared.ConversionType.{ConversionType}
-use Rattle.letters.specs.declared.ConversionType.the-variants as C
+use Rattle.kinds.specs.Letters.{lookup}
+use Rattle.kinds.specs.Kinds.{integerKinds, kindOf, integerForm, onlyIf, formOf, printsAs}
+use Rattle.kinds.specs.declared.letters.ConversionType.{ConversionType}
+use Rattle.kinds.specs.declared.letters.ConversionType.the-variants as C
 use Rattle.numerals.specs.declared.Radix.{Radix}
 use Rattle.numerals.specs.declared.Radix.the-variants as R
-use Rattle.conversions.specs.declared.Kind.{Kind}
-use Rattle.conversions.specs.declared.Kind.the-variants as K
-use Rattle.conversions.specs.declared.KindByte.{KindByte}
-use Rattle.conversions.specs.declared.KindByte.the-variants.{Known, Unknown}
-use Rattle.conversions.specs.declared.IntegerForm.{IntegerForm}
-use Rattle.conversions.specs.declared.IntegerForm.the-variants.{Numeral, Scalar, Digits}
-use Rattle.conversions.specs.declared.Form.the-variants as F
-use Rattle.letters.proofs.Tables.{together}
-use Rattle.conversions.proofs.Tables.{OfByte, form-of}
+use Rattle.kinds.specs.declared.Kind.{Kind}
+use Rattle.kinds.specs.declared.Kind.the-variants as K
+use Rattle.kinds.specs.declared.KindByte.{KindByte}
+use Rattle.kinds.specs.declared.KindByte.the-variants.{Known, Unknown}
+use Rattle.kinds.specs.declared.IntegerForm.{IntegerForm}
+use Rattle.kinds.specs.declared.IntegerForm.the-variants.{Numeral, Scalar, Digits}
+use Rattle.kinds.specs.declared.Form.the-variants as F
+use Rattle.kinds.proofs.Lookup.{together}
+use Rattle.kinds.proofs.Tables.{OfByte, form-of}
 use Rattle.specifiers.specs.declared.Element.{Element}
-use Rattle.entries.specs.Entry.{isNull, entryOf}
-use Rattle.entries.specs.Widths.{HasWidth}
-use Rattle.entries.proofs.Widths.{has-width}
+use Rattle.rows.specs.Entry.{isNull, entryOf}
+use Rattle.rows.specs.Widths.{HasWidth}
+use Rattle.rows.proofs.Widths.{has-width}
 use Rattle.rows.specs.Row.{entryAt, textArea, kindByteOf, valueOf}
 use Rattle.rows.specs.Arguments.{Argument}
 use Rattle.rows.proofs.Rows.{AllBytes, value-below, entry}

@@ -3,7 +3,7 @@ use Prim.Native.Nat.{ℕ}
 use mathlib.Core.Path.{_≡_, refl, sym, ap, _∙_}
 use mathlib.Core.Bool.{Bool, true, false}
 use mathlib.Core.List.{List, []}
-use Rattle.params.specs.Params.{widthOf}
+use Rattle.specifiers.specs.Params.{widthOf}
 use Rattle.frames.specs.Frame.{closing}
 use Rattle.frames.specs.Signs.{isMinus}
 use Rattle.frames.specs.declared.Mark.{Mark}
@@ -19,7 +19,7 @@ use Rattle.reading.proofs.Integers.{spaced}
 use Rattle.reading.proofs.Floats.{scaledOf, hexPrefix as readPrefix}
 use Rattle.reading.proofs.Pieces.{float-piece}
 use Rattle.reading.proofs.Denotes.{denotes}
-use Rattle.flags.specs.declared.Flags.{Flags}
+use Rattle.specifiers.specs.declared.flags.Flags.{Flags}
 use Rattle.specifiers.specs.declared.Element.{Element}
 use Rattle.elements.specs.Texts.{floatText}
 use Rattle.numbers.specs.Numbers.{fill, hexPrefix, floatMark, finiteText}

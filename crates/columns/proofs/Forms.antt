@@ -6,18 +6,18 @@ use mathlib.Core.Bool.{Bool, true, false}
 use mathlib.Core.List.{List}
 use lib.IntN.{ℤ}
 use Rattle.writing.specs.Choose.{choose}
-use Rattle.integers.specs.Integers.{intOf, bitsOf}
-use Rattle.params.specs.declared.NumericParam.{NumericParam}
+use Rattle.numerals.specs.Integers.{intOf, bitsOf}
+use Rattle.numerals.specs.declared.NumericParam.{NumericParam}
 use Rattle.binary64.specs.Fields.{categoryOf}
 use Rattle.binary64.specs.declared.FpCategory.{FpCategory}
 use Rattle.binary64.specs.declared.FpCategory.the-variants as C
 use Rattle.reading.specs.Reading.{Reading, Integer, Bits, readPiece}
 use Rattle.numerals.specs.declared.Radix.{Radix}
 use Rattle.numerals.specs.declared.Radix.the-variants as R
-use Rattle.conversions.specs.declared.IntegerForm.{IntegerForm}
-use Rattle.conversions.specs.declared.IntegerForm.the-variants.{Numeral, Scalar, Digits}
-use Rattle.conversions.specs.declared.Form.{Form}
-use Rattle.conversions.specs.declared.Form.the-variants as F
+use Rattle.kinds.specs.declared.IntegerForm.{IntegerForm}
+use Rattle.kinds.specs.declared.IntegerForm.the-variants.{Numeral, Scalar, Digits}
+use Rattle.kinds.specs.declared.Form.{Form}
+use Rattle.kinds.specs.declared.Form.the-variants as F
 use Rattle.specifiers.specs.declared.Element.{Element}
 use Rattle.columns.specs.Columns.{FloatRead}
 

@@ -12,7 +12,7 @@ use Rattle.frames.specs.declared.Adjust.the-variants.{Right, Left, Zeros}
 use Rattle.frames.specs.declared.Mark.{Mark}
 use Rattle.frames.specs.declared.Prefix.{Prefix}
 use Rattle.reading.proofs.Integers.{spaced}
-use Rattle.flags.specs.declared.Flags.{Flags}
+use Rattle.specifiers.specs.declared.flags.Flags.{Flags}
 use Rattle.numbers.specs.Numbers.{signMark}
 
 module _ (P : List ℕ → Type 0) (m : Mark) (p : Prefix) (body : List ℕ) (all : (a z i : ℕ) → P (spaced a m p z body i)) where

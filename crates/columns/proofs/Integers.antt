@@ -12,9 +12,9 @@ use lib.Pow.{pow-mono}
 use borrow.Author.Tests.{leb-true, le-ltb}
 use Rattle.writing.proofs.Choose.{by-test}
 use Rattle.numerals.specs.Digits.{digits, lettersOf, numeral, decimal}
-use Rattle.integers.specs.Integers.{intOf, isNegative, signed, bitsOf, InWidth}
-use Rattle.integers.proofs.Integers.{sign-magnitude, intOf-low, intOf-high, low-bits}
-use Rattle.params.specs.Params.{widthOf}
+use Rattle.numerals.specs.Integers.{intOf, isNegative, signed, bitsOf, InWidth}
+use Rattle.numerals.proofs.TwosComplement.{sign-magnitude, intOf-low, intOf-high, low-bits}
+use Rattle.specifiers.specs.Params.{widthOf}
 use Rattle.frames.specs.Signs.{isMinus}
 use Rattle.frames.specs.declared.Mark.{Mark}
 use Rattle.frames.specs.declared.Mark.the-variants.{NoMark}
@@ -24,12 +24,12 @@ use Rattle.reading.specs.Kept.{kept}
 use Rattle.reading.specs.Reading.{Integer, Bits, readPiece}
 use Rattle.reading.proofs.Integers.{spaced, kept-numeral, kept-commas}
 use Rattle.reading.proofs.Pieces.{decimal-piece, hex-piece, octal-piece}
-use Rattle.conversions.specs.declared.Kind.the-variants as K
+use Rattle.kinds.specs.declared.Kind.the-variants as K
 use Rattle.numerals.specs.declared.Radix.{Radix}
 use Rattle.numerals.specs.declared.Radix.the-variants as R
-use Rattle.flags.specs.declared.Flags.{Flags}
+use Rattle.specifiers.specs.declared.flags.Flags.{Flags}
 use Rattle.specifiers.specs.declared.Element.{Element}
-use Rattle.entries.specs.Entry.{holds}
+use Rattle.rows.specs.Entry.{holds}
 use Rattle.numbers.specs.Numbers.{fill, integerMark, commas, ifAlternate, hexPrefix, paddedNumber, numeralText}
 use Rattle.columns.proofs.Forms.{numeralLetter, NumeralRead}
 use Rattle.columns.proofs.Frames.{padded-read, sign-mark}

@@ -7,9 +7,9 @@ use mathlib.Core.List.{List, [], _∷_}
 use lib.Dec.{eqb}
 use borrow.Author.Tests.{eqb-true}
 use Rattle.writing.specs.Text.{has}
-use Rattle.letters.specs.Letters.{smallOf, capitalOf}
-use Rattle.letters.specs.declared.ConversionType.{ConversionType}
-use Rattle.letters.specs.declared.ConversionType.the-variants.{Integer, HexFloat}
+use Rattle.kinds.specs.Letters.{smallOf, capitalOf}
+use Rattle.kinds.specs.declared.letters.ConversionType.{ConversionType}
+use Rattle.kinds.specs.declared.letters.ConversionType.the-variants.{Integer, HexFloat}
 use Rattle.numerals.specs.declared.Radix.the-variants as R
 use Rattle.specifiers.specs.Specifier.{letterFrom}
 use Rattle.specifiers.specs.declared.LetterTaken.the-variants as L

@@ -5,15 +5,15 @@ use mathlib.Core.Path.{_≡_}
 use mathlib.Core.Bool.{true, false}
 use mathlib.Core.List.{List}
 use Rattle.writing.specs.Text.{ascii, has}
-use Rattle.integers.specs.Integers.{intOf, bitsOf}
-use Rattle.params.specs.declared.NumericParam.{NumericParam}
+use Rattle.numerals.specs.Integers.{intOf, bitsOf}
+use Rattle.numerals.specs.declared.NumericParam.{NumericParam}
 use Rattle.binary64.specs.Fields.{categoryOf}
 use Rattle.binary64.specs.declared.FpCategory.the-variants.{Finite}
 use Rattle.reading.specs.Reading.{Scaled, Reading, Integer, Bits, Float, readPiece}
 use Rattle.reading.specs.Nearness.{Denotes}
-use Rattle.letters.specs.Letters.{lookup}
-use Rattle.conversions.specs.Kinds.{integerKinds}
-use Rattle.entries.specs.Entry.{isNull}
+use Rattle.kinds.specs.Letters.{lookup}
+use Rattle.kinds.specs.Kinds.{integerKinds}
+use Rattle.rows.specs.Entry.{isNull}
 
 -- A number with a power of two was read, and it denotes the finite value with the bits b as demand 3 says for the precision p.
 pub record FloatRead (b : ℕ) (p : NumericParam) (r : Reading) : Type 0 where

@@ -1,2 +1,3 @@
+mod Shown
 mod Numbers
 pub mod Symbols

@@ -8,7 +8,7 @@ use borrow.Author.Tests.{lt-ltb, le-ltb}
 use Rattle.writing.specs.Writers.{Wrote}
 use Rattle.numerals.specs.Digits.{digitsIn, places, lettersOf}
 use Rattle.numerals.proofs.Digits.{length-lettersIn}
-use Rattle.components.specs.Components.{numberText}
+use Rattle.dates.specs.Components.{numberText}
 
 -- The digits that are written are the number's, and they are few.
 pub wide : (d out : List ℕ) (least v r : ℕ) → places 10 v < least → least ≤ 20 → Wrote d (lettersOf false (digitsIn 10 least v)) r out

@@ -8,11 +8,11 @@ use lib.IntN.{ℤ}
 use lib.ListN.{length, getD, take, drop, take-append-drop}
 use lib.Seq.{take-suc}
 use Rattle.writing.specs.Text.{has}
-use Rattle.letters.specs.declared.TimeFormat.{TimeFormat}
-use Rattle.letters.specs.declared.TimeFormat.the-variants as T
+use Rattle.kinds.specs.declared.letters.TimeFormat.{TimeFormat}
+use Rattle.kinds.specs.declared.letters.TimeFormat.the-variants as T
 use Rattle.calendar.specs.declared.Moment.{Moment}
-use Rattle.components.specs.Components.{symbolText, symbolsText, patternOf}
-use Rattle.components.specs.Steps.{room, roomFor}
+use Rattle.dates.specs.Components.{symbolText, symbolsText, patternOf}
+use Rattle.dates.specs.Steps.{room, roomFor}
 
 texts-on : (z : ℤ) (m : Moment) (s t : List ℕ) → symbolsText z m (s ++ t) ≡ symbolsText z m s ++ symbolsText z m t
 unfolding symbolsText

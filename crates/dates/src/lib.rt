@@ -1,18 +1,20 @@
 // The text of a component of a date, written part by part.
 // Ported from format_string.rs of datafusion-spark 55.2.0 (Apache-2.0; see NOTICE): the writing of format_time_component.
+pub mod components;
+
 use calendar::Moment;
 use components::Span;
 use components::TimePart;
-use letters::TimeFormat;
+use kinds::letters::TimeFormat;
 use numerals::Radix;
 ghost use Prim.Native.Nat.{_+_, _≤_};
 ghost use lib.ListN.{length};
 ghost use Rattle.writing.specs.Writers.{Wrote, Put};
-ghost use Rattle.integers.specs.Integers.{intOf};
-ghost use Rattle.strings.specs.Cut.{cased};
+ghost use Rattle.numerals.specs.Integers.{intOf};
+ghost use Rattle.fields.specs.Cut.{cased};
 ghost use Rattle.calendar.specs.Moments.{momentOf};
-ghost use Rattle.components.specs.Components.{numberText, symbolsText, componentText};
-ghost use Rattle.components.specs.Steps.{words, within, Inside, partText, Fitting, roomOf, roomFor};
+ghost use Rattle.dates.specs.Components.{numberText, symbolsText, componentText};
+ghost use Rattle.dates.specs.Steps.{words, within, Inside, partText, Fitting, roomOf, roomFor};
 
 // Writes a number at so many places at least. Answers its length.
 fn write_number(out: &mut [u8], value: u64, least: usize) -> usize
@@ -114,5 +116,5 @@ pub fn put_component(out: &mut [u8], component: TimeFormat, timestamp: u64, uppe
 {
     let mut buffer = [0u8; 168];
     let n = write_component(&mut buffer, component, timestamp);
-    strings::put_cased(out, &buffer[..n], upper)
+    fields::strings::put_cased(out, &buffer[..n], upper)
 }

@@ -5,7 +5,7 @@ use Prim.Native.Nat.{ℕ, _≤_}
 use native.Mathlib.Omega.{arith}
 use lib.Dec.{leb, ltb}
 use borrow.Author.Tests.{ltb-true, leb-true}
-use Rattle.scalars.specs.Scalars.{isScalar}
+use Rattle.utf8.specs.Scalars.{isScalar}
 
 -- a scalar value is no more than 0x10ffff
 pub scalar-within : (c : ℕ) → isScalar c ≡ true → c ≤ 0x10ffff

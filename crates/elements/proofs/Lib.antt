@@ -1,2 +1,3 @@
+mod PieceTexts
 mod Characters
 mod Shown

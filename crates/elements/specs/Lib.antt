@@ -1,2 +1,4 @@
+pub mod PieceTexts
+pub mod Ready
 pub mod Texts
 pub mod Sizes

@@ -7,23 +7,23 @@ use lib.Dec.{eqb}
 use lib.IntN.{ℤ, natAbs}
 use Rattle.writing.specs.Choose.{choose}
 use Rattle.writing.specs.Text.{ascii}
-use Rattle.integers.specs.Integers.{intOf, isNegative}
+use Rattle.numerals.specs.Integers.{intOf, isNegative}
 use Rattle.frames.specs.declared.Mark.the-variants.{NoMark}
 use Rattle.binary64.specs.Fields.{negative, categoryOf}
 use Rattle.binary64.specs.declared.FpCategory.{FpCategory}
 use Rattle.binary64.specs.declared.FpCategory.the-variants as C
-use Rattle.letters.specs.declared.TimeFormat.{TimeFormat}
-use Rattle.conversions.specs.Kinds.{printsAs}
-use Rattle.conversions.specs.declared.IntegerForm.{IntegerForm}
-use Rattle.conversions.specs.declared.IntegerForm.the-variants.{Numeral, Scalar, Digits}
-use Rattle.conversions.specs.declared.Form.{Form}
-use Rattle.conversions.specs.declared.Form.the-variants as F
+use Rattle.kinds.specs.declared.letters.TimeFormat.{TimeFormat}
+use Rattle.kinds.specs.Kinds.{printsAs}
+use Rattle.kinds.specs.declared.IntegerForm.{IntegerForm}
+use Rattle.kinds.specs.declared.IntegerForm.the-variants.{Numeral, Scalar, Digits}
+use Rattle.kinds.specs.declared.Form.{Form}
+use Rattle.kinds.specs.declared.Form.the-variants as F
 use Rattle.specifiers.specs.declared.Element.{Element}
 use Rattle.numbers.specs.Numbers.{numeralText, floatMark, finiteText}
-use Rattle.scalars.specs.Scalars.{isScalar, utf8Of}
-use Rattle.strings.specs.Cut.{cased}
-use Rattle.components.specs.Components.{componentText, isEarlyFraction}
-use Rattle.entries.specs.Entry.{isNull}
+use Rattle.utf8.specs.Scalars.{isScalar, utf8Of}
+use Rattle.fields.specs.Cut.{cased}
+use Rattle.dates.specs.Components.{componentText, isEarlyFraction}
+use Rattle.rows.specs.Entry.{isNull}
 use Rattle.fields.specs.Texts.{paddedText, formatString, signedText}
 
 -- A text, or the number that stops the call.

@@ -2,11 +2,13 @@
 // Ported from format_string.rs of datafusion-spark 55.2.0 (Apache-2.0; see NOTICE): format_integer, format_char, format_boolean,
 // format_hex_float and format_time, but for the text of a number, which is `numbers`, a text in its field, which is `fields`, and a component
 // of a date, which is `dates`.
+pub mod pieces;
+
 use binary64::FpCategory;
-use conversions::Form;
-use conversions::IntegerForm;
 use frames::Mark;
-use letters::TimeFormat;
+use kinds::Form;
+use kinds::IntegerForm;
+use kinds::letters::TimeFormat;
 use specifiers::Element;
 ghost use mathlib.Core.Bool.{false};
 ghost use mathlib.Core.List.{[]};
@@ -14,9 +16,9 @@ ghost use Prim.Native.Nat.{_^_, _<_};
 ghost use lib.IntN.{natAbs};
 ghost use lib.ListN.{length};
 ghost use Rattle.writing.specs.Writers.{Put};
-ghost use Rattle.integers.specs.Integers.{intOf, isNegative};
+ghost use Rattle.numerals.specs.Integers.{intOf, isNegative};
 ghost use Rattle.binary64.specs.Fields.{categoryOf};
-ghost use Rattle.conversions.specs.declared.Form.the-variants as F;
+ghost use Rattle.kinds.specs.declared.Form.the-variants as F;
 ghost use Rattle.elements.specs.Texts.{charText, floatText, integerText, timeText, valueText, elementText, textOf};
 ghost use Rattle.elements.specs.Sizes.{Sized};
 
@@ -30,13 +32,13 @@ pub enum Size {
 fn format_char(out: &mut [u8], e: Element, value: u64) -> Size
     ensures { λ r. ⌜ Sized (now (out .entry)) (charText e (isNegative (intOf 64 value)) (natAbs (intOf 64 value))) r (now (out .exit)) ⌝ }
 {
-    if integers::is_negative(value) {
+    if numerals::integers::is_negative(value) {
         return Size::Stops(refusals::NO_SCALAR);
     }
-    let magnitude = integers::magnitude(value);
-    if scalars::is_scalar(magnitude) {
+    let magnitude = numerals::integers::magnitude(value);
+    if utf8::scalars::is_scalar(magnitude) {
         let mut buffer = [0u8; 4];
-        let n = scalars::write_scalar(&mut buffer, magnitude as u32);
+        let n = utf8::scalars::write_scalar(&mut buffer, magnitude as u32);
         return Size::Bytes(fields::put_padded(out, e, Mark::NoMark, &buffer[..n]));
     }
     Size::Stops(refusals::NO_SCALAR)
@@ -90,7 +92,7 @@ fn format_boolean(out: &mut [u8], e: Element, value: u64) -> u64
 fn format_time(out: &mut [u8], component: TimeFormat, value: u64, upper: bool) -> Size
     ensures { λ r. ⌜ Sized (now (out .entry)) (timeText upper component (intOf 64 value)) r (now (out .exit)) ⌝ }
 {
-    if components::is_early_fraction(value) {
+    if dates::components::is_early_fraction(value) {
         return Size::Stops(refusals::NO_WHOLE_SECOND);
     }
     // Called from two places, so that it is compiled apart from the loop over pieces, which has to be quick for numbers.
@@ -101,12 +103,12 @@ fn format_time(out: &mut [u8], component: TimeFormat, value: u64, upper: bool) -
 }
 
 // Writes an element for a row's entry where there is room for it: its kind byte, the text it names, its value.
-pub fn put_element(out: &mut [u8], e: Element, kind: u8, part: &[u8], value: u64) -> Size
+fn put_element(out: &mut [u8], e: Element, kind: u8, part: &[u8], value: u64) -> Size
     requires { ⌜ length (now part) < 2 ^ 32 ⌝ }
     ensures { λ r. ⌜ Sized (now (out .entry)) (elementText e kind (now (part .entry)) value) r (now (out .exit)) ⌝ }
 {
     let conversion = e.conversion;
-    let form = conversions::prints_as(conversion, kind);
+    let form = kinds::prints_as(conversion, kind);
     match form {
         Form::Integer {
             form: written,

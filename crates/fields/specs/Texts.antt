@@ -5,16 +5,16 @@ use mathlib.Core.Bool.{Bool, true, false}
 use mathlib.Core.List.{List, _∷_}
 use Rattle.writing.specs.Choose.{choose}
 use Rattle.numerals.specs.Digits.{decimal}
-use Rattle.params.specs.Params.{widthOf}
+use Rattle.specifiers.specs.Params.{widthOf}
 use Rattle.frames.specs.Frame.{padded}
 use Rattle.frames.specs.declared.Mark.{Mark}
 use Rattle.frames.specs.declared.Mark.the-variants.{NoMark}
 use Rattle.frames.specs.declared.Prefix.the-variants.{NoPrefix}
 use Rattle.frames.specs.declared.Adjust.{Adjust}
 use Rattle.frames.specs.declared.Adjust.the-variants.{Right, Left}
-use Rattle.flags.specs.declared.Flags.{Flags}
+use Rattle.specifiers.specs.declared.flags.Flags.{Flags}
 use Rattle.specifiers.specs.declared.Element.{Element}
-use Rattle.strings.specs.Cut.{cutTo, cased}
+use Rattle.fields.specs.Cut.{cutTo, cased}
 
 -- Where the padding stands: `-` decides; "`0` pads with spaces" under %s, %c and %b.
 abbrev pub side : Flags → Adjust

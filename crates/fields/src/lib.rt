@@ -1,17 +1,19 @@
 // A text in a field of the element's width: a text or a word, and an integer's digits. Answers the length, and writes where there is room.
 // Ported from format_string.rs of datafusion-spark 55.2.0 (Apache-2.0; see NOTICE): format_string, and the digits of format_integer under %s.
-use flags::Flags;
+pub mod strings;
+
 use frames::Adjust;
 use frames::Mark;
 use frames::Prefix;
 use numerals::Radix;
 use specifiers::Element;
+use specifiers::flags::Flags;
 ghost use mathlib.Core.Path.{_≡_};
 ghost use Prim.Native.Nat.{_^_, _≤_, _<_};
 ghost use lib.IntN.{natAbs};
 ghost use lib.ListN.{length};
 ghost use Rattle.writing.specs.Writers.{Wrote, Put};
-ghost use Rattle.integers.specs.Integers.{intOf, isNegative};
+ghost use Rattle.numerals.specs.Integers.{intOf, isNegative};
 ghost use Rattle.fields.specs.Texts.{side, paddedText, formatString, signedText};
 
 // Where spaces stand: behind with `-`, else in front.
@@ -32,9 +34,9 @@ pub fn put_padded(out: &mut [u8], e: Element, mark: Mark, text: &[u8]) -> u64
     let width = e.width;
     let flags = e.flags;
     let n = text.len() as u64;
-    let framed = layout::put_frame(
+    let framed = frames::layout::put_frame(
         out,
-        params::width_of(width),
+        specifiers::params::width_of(width),
         side_of(flags),
         mark,
         Prefix::NoPrefix,
@@ -78,8 +80,8 @@ pub fn format_signed_text(out: &mut [u8], e: Element, value: u64) -> u64
     let mut buffer = [0u8; 21];
     let n = write_signed_text(
         &mut buffer,
-        integers::is_negative(value),
-        integers::magnitude(value),
+        numerals::integers::is_negative(value),
+        numerals::integers::magnitude(value),
     );
     format_string(out, e, &buffer[..n])
 }

@@ -1,3 +1,4 @@
+pub mod Around
 pub mod Frame
 pub mod Short
 pub mod Bare

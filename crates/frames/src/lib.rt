@@ -1,6 +1,8 @@
 // What stands around the text of a value: marks, prefixes, and the frame that brings a text to a width, with its length.
 // Ported in part from format_string.rs of datafusion-spark 55.2.0 (Apache-2.0; see NOTICE): the padding of format_signed,
 // format_unsigned, format_str and format_hex_float.
+pub mod layout;
+
 ghost use mathlib.Core.Path.{_≡_};
 ghost use Prim.Native.Nat.{_+_, _^_, _≤_, _<_};
 ghost use lib.ListN.{length};
@@ -45,7 +47,7 @@ pub struct Frame {
 pub struct Short(pub u8, pub u8, pub u8);
 
 // What a mark puts in front of the digits.
-pub fn opening_text(mark: Mark) -> Short
+fn opening_text(mark: Mark) -> Short
     ensures { λ r. ⌜ StandsFor r (opening mark) ⌝ }
 {
     match mark {
@@ -58,7 +60,7 @@ pub fn opening_text(mark: Mark) -> Short
 }
 
 // What a mark puts behind the digits.
-pub fn closing_text(mark: Mark) -> Short
+fn closing_text(mark: Mark) -> Short
     ensures { λ r. ⌜ StandsFor r (closing mark) ⌝ }
 {
     match mark {
@@ -71,7 +73,7 @@ pub fn closing_text(mark: Mark) -> Short
 }
 
 // What a prefix puts in front of zeros and digits.
-pub fn prefix_text(prefix: Prefix) -> Short
+fn prefix_text(prefix: Prefix) -> Short
     ensures { λ r. ⌜ StandsFor r (prefixText prefix) ⌝ }
 {
     match prefix {
@@ -121,7 +123,7 @@ fn spare_width(width: u32, mark: Mark, prefix: Prefix, n: u64) -> u32
 }
 
 // The frame that brings a text of n to the width; a width of 0 pads nothing.
-pub fn frame_for(width: u32, adjust: Adjust, mark: Mark, prefix: Prefix, n: u64) -> Frame
+fn frame_for(width: u32, adjust: Adjust, mark: Mark, prefix: Prefix, n: u64) -> Frame
     ensures { λ r. ⌜ r ≡ frameOf width adjust mark prefix n ⌝ }
 {
     let rest = spare_width(width, mark, prefix, n);
@@ -151,7 +153,7 @@ pub fn frame_for(width: u32, adjust: Adjust, mark: Mark, prefix: Prefix, n: u64)
 }
 
 // How many bytes a frame adds to the text within it; nothing is written.
-pub fn frame_len(f: Frame) -> u64
+fn frame_len(f: Frame) -> u64
     ensures { λ r. ⌜ (r ≡ length (headText f) + length (tailText f)) × (r < 2 ^ 41) ⌝ }
 {
     let mark = f.mark;

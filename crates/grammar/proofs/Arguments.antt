@@ -7,8 +7,8 @@ use Prim.Native.Nat.{ℕ, suc, _≤_}
 use native.Mathlib.Omega.{arith}
 use lib.ListN.{length}
 use Rattle.numerals.specs.Digits.{numberOf}
-use Rattle.params.specs.Params.{isDigit, isParam, leadingDigits}
-use Rattle.arguments.proofs.Indexes.{number-pos}
+use Rattle.specifiers.specs.Params.{isDigit, isParam, leadingDigits}
+use Rattle.parsing.proofs.Named.{number-pos}
 use Rattle.grammar.specs.Runs.{Run, numberIn}
 use Rattle.grammar.specs.Parts.{Choice, Written, Part, text, percent, newline, element, countedIn, namedBy, lastNamed}
 use Rattle.grammar.specs.Elements.{IsIndex, Names, by-last, by-index, by-count, Stands, Reads}

@@ -14,11 +14,11 @@ use borrow.Author.Tests.{eqb-true, ne-eqb}
 use Rattle.refusals.specs.Limits.{largestNumber}
 use Rattle.writing.specs.Text.{ascii, has}
 use Rattle.writing.proofs.Choose.{both}
-use Rattle.params.specs.Params.{isDigit, leadingDigits, isParam, numberAt}
-use Rattle.params.specs.declared.Number.{Number}
+use Rattle.specifiers.specs.Params.{isDigit, leadingDigits, isParam, numberAt}
+use Rattle.specifiers.specs.declared.params.Number.{Number}
 use Rattle.specifiers.specs.Specifier.{beginsWith}
-use Rattle.arguments.specs.Indexes.{amongKinds, indexOf, isIndex, indexAt, sameIndex}
-use Rattle.arguments.specs.declared.Index.the-variants as I
+use Rattle.parsing.specs.Indexes.{amongKinds, indexOf, isIndex, indexAt, sameIndex}
+use Rattle.parsing.specs.declared.arguments.Index.the-variants as I
 use Rattle.parsing.specs.Pieces.{argumentAt}
 use Rattle.parsing.specs.declared.Cursor.{Cursor}
 use Rattle.grammar.specs.Runs.{begins, Run, numberIn}

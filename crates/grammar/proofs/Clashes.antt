@@ -11,7 +11,7 @@ use lib.ListN.{length, length-append}
 use borrow.Author.Tests.{eqb-true, eq-eqb, ne-eqb}
 use Rattle.writing.specs.Text.{has}
 use Rattle.writing.proofs.Choose.{by-test, both}
-use Rattle.flags.specs.Flags.{clash, orLater, firstClash}
+use Rattle.specifiers.specs.Flags.{clash, orLater, firstClash}
 use Rattle.grammar.specs.Elements.{Clash, zero-after-minus, plus-after-space, space-after-plus, Free}
 
 -- a list that ends with something is not empty; the heads and tails of one list

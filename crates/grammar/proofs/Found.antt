@@ -9,12 +9,12 @@ use native.Mathlib.Omega.{arith}
 use lib.Dec.{eqb}
 use lib.ListN.{length, getD, drop, length-append, length-drop}
 use Rattle.writing.specs.Text.{ascii}
-use Rattle.flags.specs.Flags.{flagsOf}
+use Rattle.specifiers.specs.Flags.{flagsOf}
 use Rattle.specifiers.specs.Specifier.{beginsWith, letterFrom, specifierAt}
 use Rattle.specifiers.specs.declared.Element.{Element}
 use Rattle.specifiers.specs.declared.LetterTaken.the-variants as L
 use Rattle.specifiers.specs.declared.Specifier.the-variants as S
-use Rattle.scanning.specs.Texts.{textLength}
+use Rattle.parsing.specs.Texts.{textLength}
 use Rattle.parsing.specs.Pieces.{passed, afterSpecifier, pieceAt}
 use Rattle.parsing.specs.declared.Cursor.{Cursor}
 use Rattle.parsing.specs.declared.Piece.{Piece}

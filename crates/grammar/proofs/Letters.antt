@@ -12,16 +12,16 @@ use borrow.Author.Tests.{eqb-true, ne-eqb}
 use Rattle.writing.specs.Choose.{choose}
 use Rattle.writing.specs.Text.{ascii, has}
 use Rattle.writing.proofs.Choose.{by-test, both}
-use Rattle.letters.specs.Letters.{lookup, timeLetters as timeTable, timeOf, smallLetters, smallOf, capitalLetters, capitalOf}
-use Rattle.conversions.specs.Kinds.{integerKinds, otherKinds, isIntegerKind, kindOf, fits, isKnown}
-use Rattle.letters.specs.declared.ConversionType.{ConversionType}
-use Rattle.letters.specs.declared.ConversionType.the-variants.{Time}
-use Rattle.conversions.specs.declared.Kind.the-variants as K
-use Rattle.conversions.specs.declared.KindByte.the-variants.{Known, Unknown}
-use Rattle.letters.specs.declared.Letter.{Letter}
-use Rattle.letters.specs.declared.Letter.the-variants.{Conversion, NoConversion}
-use Rattle.letters.specs.declared.TimeLetter.{TimeLetter}
-use Rattle.letters.specs.declared.TimeLetter.the-variants.{Component, NoComponent}
+use Rattle.kinds.specs.Letters.{lookup, timeLetters as timeTable, timeOf, smallLetters, smallOf, capitalLetters, capitalOf}
+use Rattle.kinds.specs.Kinds.{integerKinds, otherKinds, isIntegerKind, kindOf, fits, isKnown}
+use Rattle.kinds.specs.declared.letters.ConversionType.{ConversionType}
+use Rattle.kinds.specs.declared.letters.ConversionType.the-variants.{Time}
+use Rattle.kinds.specs.declared.Kind.the-variants as K
+use Rattle.kinds.specs.declared.KindByte.the-variants.{Known, Unknown}
+use Rattle.kinds.specs.declared.letters.Letter.{Letter}
+use Rattle.kinds.specs.declared.letters.Letter.the-variants.{Conversion, NoConversion}
+use Rattle.kinds.specs.declared.letters.TimeLetter.{TimeLetter}
+use Rattle.kinds.specs.declared.letters.TimeLetter.the-variants.{Component, NoComponent}
 use Rattle.specifiers.specs.Specifier.{capitalTaken, oneLetter, timeLetter, secondLetter, letterFrom}
 use Rattle.specifiers.specs.declared.LetterTaken.{LetterTaken}
 use Rattle.specifiers.specs.declared.LetterTaken.the-variants as L

@@ -7,16 +7,16 @@ use lib.Dec.{ltb}
 use lib.ListN.{length, getD}
 use Rattle.refusals.specs.Limits.{mostPieces}
 use Rattle.writing.specs.Choose.{choose}
-use Rattle.conversions.specs.Kinds.{fits, fitsKind}
-use Rattle.letters.specs.declared.ConversionType.{ConversionType}
+use Rattle.kinds.specs.Kinds.{fits, fitsKind}
+use Rattle.kinds.specs.declared.letters.ConversionType.{ConversionType}
 use Rattle.specifiers.specs.Specifier.{letterAt, afterLetter, partsAt, afterParts, specifierAt}
 use Rattle.specifiers.specs.declared.LetterTaken.{LetterTaken}
 use Rattle.specifiers.specs.declared.LetterTaken.the-variants as L
 use Rattle.specifiers.specs.declared.Parts.{Parts}
 use Rattle.specifiers.specs.declared.PartsTaken.{PartsTaken}
 use Rattle.specifiers.specs.declared.PartsTaken.the-variants as P
-use Rattle.arguments.specs.declared.Index.{Index}
-use Rattle.arguments.specs.declared.Index.the-variants as I
+use Rattle.parsing.specs.declared.arguments.Index.{Index}
+use Rattle.parsing.specs.declared.arguments.Index.the-variants as I
 use Rattle.parsing.specs.Pieces.{start, argumentAt, afterSpecifier, afterIndex, elementAt, pieceAt}
 use Rattle.parsing.specs.Listed.{Placed, andRest, placedFrom, placed, afterStep, endFrom, ended}
 use Rattle.parsing.specs.declared.Cursor.{Cursor}

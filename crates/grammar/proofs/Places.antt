@@ -14,12 +14,12 @@ use Rattle.refusals.specs.Limits.{largestNumber}
 use Rattle.writing.specs.Text.{ascii, has}
 use Rattle.writing.proofs.Choose.{both}
 use Rattle.numerals.specs.Digits.{numberFrom, numberOf}
-use Rattle.params.specs.Params.{isDigit, leadingDigits, isParam, numberTaken, numberAt, paramOf, paramAt}
-use Rattle.params.specs.declared.Number.the-variants as N
-use Rattle.params.specs.declared.NumericParam.the-variants.{FromArgument}
-use Rattle.params.specs.declared.Taken.the-variants.{Param, TooLarge}
-use Rattle.flags.specs.Flags.{leadingFlags, flagsOf, firstClash, flagsTaken, flagsAt}
-use Rattle.flags.specs.declared.FlagsTaken.the-variants as F
+use Rattle.specifiers.specs.Params.{isDigit, leadingDigits, isParam, numberTaken, numberAt, paramOf, paramAt}
+use Rattle.specifiers.specs.declared.params.Number.the-variants as N
+use Rattle.numerals.specs.declared.NumericParam.the-variants.{FromArgument}
+use Rattle.specifiers.specs.declared.params.Taken.the-variants.{Param, TooLarge}
+use Rattle.specifiers.specs.Flags.{leadingFlags, flagsOf, firstClash, flagsTaken, flagsAt}
+use Rattle.specifiers.specs.declared.flags.FlagsTaken.the-variants as F
 use Rattle.grammar.specs.Runs.{begins, all, Run, numberIn}
 use Rattle.grammar.specs.Elements.{IsIndex, isFlag, Clash, Free}
 use Rattle.grammar.specs.Pieces.{paramRead}

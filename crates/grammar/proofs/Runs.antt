@@ -8,9 +8,9 @@ use lib.Dec.{eqb}
 use lib.ListN.{length, drop}
 use Rattle.writing.specs.Choose.{choose}
 use Rattle.writing.proofs.Choose.{by-test, both}
-use Rattle.params.specs.Params.{isDigit, leadingDigits}
-use Rattle.flags.specs.Flags.{leadingFlags}
-use Rattle.scanning.specs.Texts.{textLength}
+use Rattle.specifiers.specs.Params.{isDigit, leadingDigits}
+use Rattle.specifiers.specs.Flags.{leadingFlags}
+use Rattle.parsing.specs.Texts.{textLength}
 use Rattle.grammar.specs.Runs.{begins, all, Run}
 use Rattle.grammar.specs.Elements.{isFlag}
 

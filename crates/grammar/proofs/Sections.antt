@@ -10,16 +10,16 @@ use lib.ListN.{length, getD, drop}
 use borrow.Author.Tests.{le-leb}
 use Rattle.refusals.specs.Limits.{largestNumber}
 use Rattle.writing.specs.Text.{ascii, has}
-use Rattle.params.specs.Params.{isDigit, isParam, paramAt}
-use Rattle.params.specs.declared.NumericParam.the-variants.{FromArgument}
-use Rattle.params.specs.declared.Taken.the-variants.{Param}
-use Rattle.flags.specs.Flags.{flagsOf, flagsAt}
+use Rattle.specifiers.specs.Params.{isDigit, isParam, paramAt}
+use Rattle.numerals.specs.declared.NumericParam.the-variants.{FromArgument}
+use Rattle.specifiers.specs.declared.params.Taken.the-variants.{Param}
+use Rattle.specifiers.specs.Flags.{flagsOf, flagsAt}
 use Rattle.specifiers.specs.Specifier.{beginsWith, precisionAt, letterFrom, letterAt, partsAt, afterLetter, specifierAt}
-use Rattle.flags.specs.declared.FlagsTaken.the-variants as F
+use Rattle.specifiers.specs.declared.flags.FlagsTaken.the-variants as F
 use Rattle.specifiers.specs.declared.Parts.{Parts}
 use Rattle.specifiers.specs.declared.Specifier.{Specifier}
 use Rattle.specifiers.specs.declared.Specifier.the-variants as S
-use Rattle.arguments.specs.declared.Index.the-variants as I
+use Rattle.parsing.specs.declared.arguments.Index.the-variants as I
 use Rattle.parsing.specs.Pieces.{argumentAt}
 use Rattle.parsing.specs.declared.Cursor.{Cursor}
 use Rattle.grammar.specs.Runs.{begins, Run, numberIn}

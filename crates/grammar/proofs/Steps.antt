@@ -9,14 +9,14 @@ use lib.Dec.{eqb}
 use lib.ListN.{length, getD, drop}
 use borrow.Author.Tests.{eq-eqb, lt-leb}
 use Rattle.writing.specs.Text.{ascii, has}
-use Rattle.params.specs.Params.{isDigit}
-use Rattle.conversions.specs.Kinds.{fitsKind}
-use Rattle.flags.specs.Flags.{flagsOf}
+use Rattle.specifiers.specs.Params.{isDigit}
+use Rattle.kinds.specs.Kinds.{fitsKind}
+use Rattle.specifiers.specs.Flags.{flagsOf}
 use Rattle.specifiers.specs.Specifier.{beginsWith, afterLetter, specifierAt}
 use Rattle.specifiers.specs.declared.LetterTaken.the-variants as L
 use Rattle.specifiers.specs.declared.Specifier.the-variants as S
-use Rattle.arguments.specs.Indexes.{indexAt}
-use Rattle.arguments.specs.declared.Index.the-variants as I
+use Rattle.parsing.specs.Indexes.{indexAt}
+use Rattle.parsing.specs.declared.arguments.Index.the-variants as I
 use Rattle.parsing.specs.Pieces.{argumentAt, afterSpecifier, afterIndex, elementAt, pieceAt}
 use Rattle.parsing.specs.declared.Cursor.{Cursor}
 use Rattle.parsing.specs.declared.Step.the-variants.{Refused}

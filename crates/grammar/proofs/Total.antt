@@ -13,8 +13,8 @@ use lib.Seq.{drop-append-seam}
 use borrow.Author.Tests.{eqb-true}
 use Rattle.refusals.specs.Limits.{largestNumber}
 use Rattle.writing.specs.Text.{ascii, has}
-use Rattle.params.specs.Params.{isDigit, isParam}
-use Rattle.flags.specs.Flags.{firstClash}
+use Rattle.specifiers.specs.Params.{isDigit, isParam}
+use Rattle.specifiers.specs.Flags.{firstClash}
 use Rattle.specifiers.specs.Specifier.{beginsWith}
 use Rattle.grammar.specs.Runs.{begins, Run, numberIn}
 use Rattle.grammar.specs.Parts.{Choice, same, index, counted, choiceBytes, Written, Part, countedIn, lastNamed}

@@ -9,7 +9,7 @@ use lib.Dec.{eqb}
 use lib.ListN.{length, getD}
 use Rattle.refusals.specs.Limits.{largestNumber}
 use Rattle.writing.specs.Text.{ascii, has}
-use Rattle.params.specs.Params.{isDigit}
+use Rattle.specifiers.specs.Params.{isDigit}
 use Rattle.grammar.specs.Runs.{begins, all, Run, numberIn}
 use Rattle.grammar.specs.Parts.{Choice, same, index, counted, choiceBytes, Written, precisionBytes}
 use Rattle.grammar.specs.Parts.{Part, text, percent, newline, element, countedIn, lastNamed}

@@ -8,7 +8,7 @@ use mathlib.Core.Option.{none}
 use lib.ListN.{length}
 use Rattle.refusals.specs.Limits.{largestNumber}
 use Rattle.writing.specs.Text.{ascii, has}
-use Rattle.params.specs.Params.{isDigit}
+use Rattle.specifiers.specs.Params.{isDigit}
 use Rattle.grammar.specs.Runs.{begins, Run, numberIn}
 use Rattle.grammar.specs.Parts.{Written, Part, lastNamed}
 use Rattle.grammar.specs.Elements.{IsIndex, Begun, Named, Flagged, Wide, Precise, Lettered, isFlag, Clash, Free, letters, timeLetters, kindAt, fitsBytes}

@@ -8,12 +8,12 @@ use mathlib.Core.Option.{Option, none, some}
 use lib.ListN.{length, drop}
 use Rattle.writing.specs.Text.{ascii, has}
 use Rattle.numerals.specs.declared.Radix.the-variants.{Decimal, Octal, Hexadecimal}
-use Rattle.params.specs.declared.NumericParam.{NumericParam}
-use Rattle.letters.specs.declared.TimeFormat.{TimeFormat}
-use Rattle.letters.specs.declared.TimeFormat.the-variants as T
-use Rattle.letters.specs.declared.ConversionType.{ConversionType}
-use Rattle.letters.specs.declared.ConversionType.the-variants as C
-use Rattle.params.specs.declared.NumericParam.the-variants.{Literal, FromArgument}
+use Rattle.numerals.specs.declared.NumericParam.{NumericParam}
+use Rattle.kinds.specs.declared.letters.TimeFormat.{TimeFormat}
+use Rattle.kinds.specs.declared.letters.TimeFormat.the-variants as T
+use Rattle.kinds.specs.declared.letters.ConversionType.{ConversionType}
+use Rattle.kinds.specs.declared.letters.ConversionType.the-variants as C
+use Rattle.numerals.specs.declared.NumericParam.the-variants.{Literal, FromArgument}
 use Rattle.specifiers.specs.Specifier.{letterFrom}
 use Rattle.specifiers.specs.declared.Element.{Element}
 use Rattle.specifiers.specs.declared.LetterTaken.the-variants as L

@@ -22,7 +22,7 @@ use Rattle.outcomes.specs.declared.Outcome.the-variants.{Accepted, Refused}
 use Rattle.outcomes.proofs.Accepted.{Accepts, accepted}
 use Rattle.outcomes.proofs.Joined.{ends-length, nth-end, between}
 use Rattle.outcomes.proofs.Texts.{texts-length}
-use Rattle.tallies.specs.Tallies.{laidEnds, lowEnds}
+use Rattle.printing.specs.Tallies.{laidEnds, lowEnds}
 use Rattle.printing.specs.Stages.{Staged}
 use Rattle.printing.proofs.Staged.{all-texts}
 use Rattle.bounds.proofs.Bounds.{text-short}

@@ -6,8 +6,8 @@ use Prim.Native.Nat.{ℕ}
 use lib.IntN.{natAbs}
 use Rattle.writing.specs.Choose.{choose}
 use Rattle.numerals.specs.Digits.{decimal}
-use Rattle.grouping.specs.Grouping.{grouped}
-use Rattle.integers.specs.Integers.{intOf, isNegative}
+use Rattle.numerals.specs.Grouping.{grouped}
+use Rattle.numerals.specs.Integers.{intOf, isNegative}
 use Rattle.frames.specs.declared.Prefix.the-variants.{NoPrefix}
 use Rattle.numerals.specs.declared.Radix.{Radix}
 use Rattle.numerals.specs.declared.Radix.the-variants as R

@@ -5,9 +5,9 @@ use mathlib.Core.List.{List}
 use lib.IntN.{natAbs}
 use Rattle.writing.specs.Choose.{choose}
 use Rattle.numerals.specs.Digits.{numeral, decimal}
-use Rattle.grouping.specs.Grouping.{grouped}
-use Rattle.integers.specs.Integers.{intOf, isNegative}
-use Rattle.params.specs.Params.{widthOf}
+use Rattle.numerals.specs.Grouping.{grouped}
+use Rattle.numerals.specs.Integers.{intOf, isNegative}
+use Rattle.specifiers.specs.Params.{widthOf}
 use Rattle.frames.specs.Frame.{padded}
 use Rattle.frames.specs.declared.Mark.{Mark}
 use Rattle.frames.specs.declared.Mark.the-variants.{NoMark, Plus, Space, Minus, Brackets}
@@ -20,7 +20,7 @@ use Rattle.binary64.specs.HexFloat.{hexFloatOf}
 use Rattle.hexfloats.specs.Texts.{hexFloatText}
 use Rattle.numerals.specs.declared.Radix.{Radix}
 use Rattle.numerals.specs.declared.Radix.the-variants as R
-use Rattle.flags.specs.declared.Flags.{Flags}
+use Rattle.specifiers.specs.declared.flags.Flags.{Flags}
 use Rattle.specifiers.specs.declared.Element.{Element}
 
 -- Where a number's padding stands: `-` decides, else `0` makes it zeros.

@@ -6,14 +6,14 @@ use lib.IntN.{natAbs}
 use Rattle.writing.specs.Choose.{choose}
 use Rattle.numerals.specs.Bases.{baseOf}
 use Rattle.numerals.specs.Digits.{numeral, decimal}
-use Rattle.grouping.specs.Grouping.{grouped}
-use Rattle.integers.specs.Integers.{intOf, isNegative}
+use Rattle.numerals.specs.Grouping.{grouped}
+use Rattle.numerals.specs.Integers.{intOf, isNegative}
 use Rattle.frames.specs.declared.Mark.the-variants.{NoMark}
 use Rattle.frames.specs.declared.Prefix.{Prefix}
 use Rattle.frames.specs.declared.Prefix.the-variants.{NoPrefix, Octal}
 use Rattle.numerals.specs.declared.Radix.{Radix}
 use Rattle.numerals.specs.declared.Radix.the-variants as R
-use Rattle.flags.specs.declared.Flags.{Flags}
+use Rattle.specifiers.specs.declared.flags.Flags.{Flags}
 use Rattle.specifiers.specs.declared.Element.{Element}
 use Rattle.numbers.specs.Numbers.{integerMark, ifAlternate, hexPrefix}
 use Rattle.numbers.specs.declared.Numeral.{Numeral}

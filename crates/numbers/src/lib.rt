@@ -1,19 +1,19 @@
 // The text of a number under an element, with mark, prefix and padding: an integer as a numeral, and a finite float. A writer writes where there is room.
 // Ported from format_string.rs of datafusion-spark 55.2.0 (Apache-2.0; see NOTICE): format_signed and format_unsigned (here the numeral of an integer, and its
 // writer put_numeral), and the finite values of format_hex_float.
-use flags::Flags;
 use frames::Adjust;
 use frames::Mark;
 use frames::Prefix;
-use layout::Framed;
+use frames::layout::Framed;
 use numerals::Radix;
 use specifiers::Element;
+use specifiers::flags::Flags;
 ghost use mathlib.Core.Path.{_≡_};
 ghost use Prim.Native.Nat.{_^_, _≤_, _<_};
 ghost use lib.ListN.{length};
 ghost use Rattle.writing.specs.Writers.{Wrote, Put};
 ghost use Rattle.frames.specs.Frame.{frameOf};
-ghost use Rattle.layout.specs.Around.{FramePut};
+ghost use Rattle.frames.specs.Around.{FramePut};
 ghost use Rattle.numbers.specs.Numbers.{fill, paddedNumber, signMark, integerMark, ifAlternate, hexPrefix, numeralText, floatMark, finiteText};
 ghost use Rattle.numbers.specs.Numerals.{digitsText, signedNumeral, unsignedNumeral, numeralOf};
 
@@ -98,7 +98,7 @@ fn numeral_len(n: Numeral) -> usize
     ensures { λ r. ⌜ (r ≡ length (digitsText n)) × (r < 2 ^ 32) ⌝ }
 {
     if n.grouped {
-        return grouping::grouped_len(n.value);
+        return numerals::grouping::grouped_len(n.value);
     }
     let radix = n.radix;
     numerals::digits_len(n.value, radix)
@@ -110,7 +110,7 @@ fn write_numeral(out: &mut [u8], n: Numeral, len: usize) -> usize
     ensures { λ r. ⌜ Wrote (now (out .entry)) (digitsText n) r (now (out .exit)) ⌝ }
 {
     if n.grouped {
-        return grouping::write_grouped(out, n.value, len);
+        return numerals::grouping::write_grouped(out, n.value, len);
     }
     let radix = n.radix;
     numerals::write_digits(out, n.value, radix, len, n.upper)
@@ -128,9 +128,9 @@ fn put_number_frame(
     ensures { λ r. ⌜ FramePut (now (out .entry)) (frameOf width adjust mark prefix n) n r (now (out .exit)) ⌝ }
 {
     if frames::is_bare(width, mark) {
-        return layout::put_frame(out, 0, Adjust::Right, Mark::NoMark, prefix, n);
+        return frames::layout::put_frame(out, 0, Adjust::Right, Mark::NoMark, prefix, n);
     }
-    layout::put_frame(out, width, adjust, mark, prefix, n)
+    frames::layout::put_frame(out, width, adjust, mark, prefix, n)
 }
 
 // A numeral, padded to the element's width.
@@ -144,7 +144,7 @@ fn put_numeral(out: &mut [u8], e: Element, n: Numeral) -> u64
     let len = numeral_len(n);
     let framed = put_number_frame(
         out,
-        params::width_of(width),
+        specifiers::params::width_of(width),
         fill_of(flags),
         mark,
         prefix,
@@ -163,9 +163,9 @@ fn signed_numeral(flags: Flags, value: u64) -> Numeral
     ensures { λ r. ⌜ r ≡ signedNumeral flags value ⌝ }
 {
     Numeral {
-        mark: integer_mark(flags, integers::is_negative(value)),
+        mark: integer_mark(flags, numerals::integers::is_negative(value)),
         prefix: Prefix::NoPrefix,
-        value: integers::magnitude(value),
+        value: numerals::integers::magnitude(value),
         radix: Radix::Decimal,
         upper: false,
         grouped: flags.grouping,
@@ -194,13 +194,13 @@ fn numeral_of(e: Element, radix: Radix, width: u32, value: u64) -> Numeral
     match radix {
         Radix::Decimal => signed_numeral(flags, value),
         Radix::Octal => {
-            let bits = integers::low_bits(value, width);
+            let bits = numerals::integers::low_bits(value, width);
             let prefix = if_alternate(flags, Prefix::Octal);
             unsigned_numeral(prefix, Radix::Octal, false, bits)
         }
         Radix::Hexadecimal => {
             let upper = e.upper;
-            let bits = integers::low_bits(value, width);
+            let bits = numerals::integers::low_bits(value, width);
             let prefix = if_alternate(flags, hex_prefix(upper));
             unsigned_numeral(prefix, Radix::Hexadecimal, upper, bits)
         }
@@ -228,7 +228,7 @@ pub fn format_finite(out: &mut [u8], e: Element, bits: u64) -> u64
     let n = hexfloats::hex_float_len(float);
     let framed = put_number_frame(
         out,
-        params::width_of(width),
+        specifiers::params::width_of(width),
         fill_of(flags),
         mark,
         hex_prefix(upper),

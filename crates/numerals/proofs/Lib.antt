@@ -1,2 +1,4 @@
+pub mod Commas
+pub mod TwosComplement
 pub mod Digits
 pub mod Bases

@@ -1,2 +1,4 @@
+pub mod Grouping
+pub mod Integers
 pub mod Digits
 pub mod Bases

@@ -1,6 +1,9 @@
 // Whole numbers as text: digits in a base.
 // Ported in part from format_string.rs of datafusion-spark 55.2.0 (Apache-2.0; see NOTICE): the digit writing of format_unsigned and
 // format_signed.
+pub mod grouping;
+pub mod integers;
+
 ghost use mathlib.Core.Path.{_≡_};
 ghost use Prim.Native.Nat.{_^_, _≤_, _<_};
 ghost use lib.ListN.{length};
@@ -15,9 +18,15 @@ pub enum Radix {
     Hexadecimal,
 }
 
+// A number that a format may give: a width or a precision, by its digits, or none. The original's names.
+pub enum NumericParam {
+    Literal(u32),
+    FromArgument,
+}
+
 // The letter of a digit below 16: small, or capital where upper is set. A sum, so that there is no branch: n / 10 is 1 from ten on and 0 below, and gap is how
 // many other characters stand between 9 and a, or 9 and A. The digit is added last, since what stands before it then has two values only.
-pub fn digit_letter(digit: u64, upper: bool) -> u8
+fn digit_letter(digit: u64, upper: bool) -> u8
     requires { ⌜ digit < 16 ⌝ }
     ensures { λ r. ⌜ r ≡ letterOf upper digit ⌝ }
 {

@@ -16,7 +16,7 @@ use Rattle.rows.specs.Row.{kindsOf, namedText, isRow}
 use Rattle.rows.proofs.Rows.{AllBytes, kinds-length}
 use Rattle.columns.proofs.Columns.{reads-back}
 use Rattle.columns.proofs.Letters.{NamedBy}
-use Rattle.pieces.specs.PieceTexts.{shownPiece, pieceText, pieceStop}
+use Rattle.elements.specs.PieceTexts.{shownPiece, pieceText, pieceStop}
 use Rattle.outcomes.specs.Printed.{texts, joined, printedText, endsFrom}
 use Rattle.outcomes.specs.Demand.{endBefore, cutOut, pieceOf, isTime, DenotesValue, Demand3}
 use Rattle.outcomes.proofs.Joined.{ends-length, nth-end, nth-text, between}

@@ -10,15 +10,15 @@ use lib.ListN.{length, getD, length-append}
 use lib.Seq.{getD-at}
 use Rattle.writing.specs.Choose.{choose}
 use Rattle.writing.specs.Text.{has}
-use Rattle.letters.specs.Letters.{timeOf, smallOf, capitalOf}
-use Rattle.conversions.specs.Kinds.{kindOf, isKnown}
-use Rattle.letters.specs.declared.ConversionType.{ConversionType}
-use Rattle.conversions.specs.declared.KindByte.{KindByte}
-use Rattle.conversions.specs.declared.KindByte.the-variants.{Known, Unknown}
-use Rattle.letters.specs.declared.Letter.{Letter}
-use Rattle.letters.specs.declared.Letter.the-variants.{Conversion, NoConversion}
-use Rattle.letters.specs.declared.TimeLetter.{TimeLetter}
-use Rattle.letters.specs.declared.TimeLetter.the-variants.{Component, NoComponent}
+use Rattle.kinds.specs.Letters.{timeOf, smallOf, capitalOf}
+use Rattle.kinds.specs.Kinds.{kindOf, isKnown}
+use Rattle.kinds.specs.declared.letters.ConversionType.{ConversionType}
+use Rattle.kinds.specs.declared.KindByte.{KindByte}
+use Rattle.kinds.specs.declared.KindByte.the-variants.{Known, Unknown}
+use Rattle.kinds.specs.declared.letters.Letter.{Letter}
+use Rattle.kinds.specs.declared.letters.Letter.the-variants.{Conversion, NoConversion}
+use Rattle.kinds.specs.declared.letters.TimeLetter.{TimeLetter}
+use Rattle.kinds.specs.declared.letters.TimeLetter.the-variants.{Component, NoComponent}
 use Rattle.specifiers.specs.Specifier.{oneLetter, timeLetter, secondLetter, letterFrom}
 use Rattle.specifiers.specs.declared.Element.{Element}
 use Rattle.specifiers.specs.declared.LetterTaken.the-variants as L
@@ -34,7 +34,7 @@ use Rattle.grammar.proofs.Letters.{known-kind}
 use Rattle.grammar.proofs.Listed.{IsPart, nth-part}
 use Rattle.grammar.proofs.Readings.{Made, parts-of, read-whole, reads-bytes}
 use Rattle.grammar.proofs.Steps.{KindsKnown}
-use Rattle.entries.specs.Entry.{isNull, entryOf}
+use Rattle.rows.specs.Entry.{isNull, entryOf}
 use Rattle.rows.specs.Row.{countOf, kindsOf, kindByteOf, valueOf, textArea, entryAt, isRow}
 use Rattle.rows.proofs.Rows.{kinds-length, kind-byte, entry}
 use Rattle.columns.proofs.Letters.{NamedBy}

@@ -9,9 +9,9 @@ use Prim.Native.Char.{code}
 use lib.ListN.{length, getD, take, drop, length-append}
 use lib.Seq.{take-append-seam, drop-append-seam, drop-drop}
 use Rattle.writing.specs.Text.{ascii, has}
-use Rattle.params.specs.declared.NumericParam.{NumericParam}
-use Rattle.letters.specs.declared.ConversionType.{ConversionType}
-use Rattle.letters.specs.declared.ConversionType.the-variants as C
+use Rattle.numerals.specs.declared.NumericParam.{NumericParam}
+use Rattle.kinds.specs.declared.letters.ConversionType.{ConversionType}
+use Rattle.kinds.specs.declared.letters.ConversionType.the-variants as C
 use Rattle.specifiers.specs.declared.Element.{Element}
 use Rattle.parsing.specs.Listed.{Placed, placed}
 use Rattle.parsing.specs.declared.Piece.{Piece}
@@ -26,7 +26,7 @@ use Rattle.grammar.proofs.Readings.{read-whole, reads-bytes, parts-of}
 use Rattle.rows.specs.Row.{namedText, kindByteOf, valueOf, kindsOf, isRow}
 use Rattle.elements.specs.Texts.{elementText, textOf}
 use Rattle.columns.specs.Columns.{ReadsBack}
-use Rattle.pieces.specs.PieceTexts.{shownPiece, pieceText}
+use Rattle.elements.specs.PieceTexts.{shownPiece, pieceText}
 use Rattle.outcomes.specs.Demand.{cutOut, pieceOf, isTime, DenotesValue, Demand3}
 use Rattle.outcomes.specs.PartTexts.{PartText, PartTexts, nothing, one, PartDenotes}
 use Rattle.outcomes.specs.Printed.{textsOf, texts, printed}

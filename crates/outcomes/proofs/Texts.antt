@@ -6,7 +6,7 @@ use Prim.Native.Nat.{ℕ, zero, suc, _<_}
 use native.Mathlib.Omega.{arith}
 use lib.ListN.{length, getD}
 use Rattle.parsing.specs.Listed.{Placed}
-use Rattle.pieces.specs.PieceTexts.{pieceText, pieceStop}
+use Rattle.elements.specs.PieceTexts.{pieceText, pieceStop}
 use Rattle.outcomes.specs.Printed.{textsOf, stopAt, firstStop}
 
 module _ (s row : List ℕ) where

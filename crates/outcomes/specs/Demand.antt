@@ -4,14 +4,14 @@ use mathlib.Core.Path.{_≡_}
 use mathlib.Core.Bool.{Bool, true, false}
 use mathlib.Core.List.{List}
 use lib.ListN.{length, getD, take, drop}
-use Rattle.letters.specs.declared.ConversionType.{ConversionType}
-use Rattle.letters.specs.declared.ConversionType.the-variants as C
+use Rattle.kinds.specs.declared.letters.ConversionType.{ConversionType}
+use Rattle.kinds.specs.declared.letters.ConversionType.the-variants as C
 use Rattle.parsing.specs.Covers.{Covers}
 use Rattle.parsing.specs.Listed.{Placed, placed}
 use Rattle.parsing.specs.declared.Piece.{Piece}
 use Rattle.parsing.specs.declared.Piece.the-variants.{Fixed, Byte, Element as AnElement}
 use Rattle.rows.specs.Row.{kindsOf, kindByteOf, valueOf}
-use Rattle.pieces.specs.PieceTexts.{pieceText}
+use Rattle.elements.specs.PieceTexts.{pieceText}
 use Rattle.columns.specs.Columns.{ReadsBack}
 use Rattle.outcomes.specs.Printed.{texts, joined}
 use Rattle.outcomes.specs.declared.Outcome.{Outcome}

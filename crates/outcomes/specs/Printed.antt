@@ -13,7 +13,7 @@ use Rattle.parsing.specs.Listed.{Placed, placed, ended}
 use Rattle.parsing.specs.declared.Ended.{Ended}
 use Rattle.parsing.specs.declared.Ended.the-variants.{Finished, Stopped}
 use Rattle.rows.specs.Row.{kindsOf, isRow}
-use Rattle.pieces.specs.PieceTexts.{pieceText, pieceStop}
+use Rattle.elements.specs.PieceTexts.{pieceText, pieceStop}
 use Rattle.outcomes.specs.declared.Outcome.{Outcome}
 use Rattle.outcomes.specs.declared.Outcome.the-variants.{Accepted, Refused}
 

@@ -12,7 +12,7 @@ use Rattle.refusals.specs.Limits.{mostKinds, mostPieces}
 use Rattle.utf8.specs.Utf8.{wellFormed, wellFormedFrom}
 use Rattle.parsing.specs.Pieces.{start, pieceAt}
 use Rattle.parsing.specs.Listed.{Placed, placedFrom, endFrom, placed, ended}
-use Rattle.conversions.specs.Kinds.{allKnown}
+use Rattle.kinds.specs.Kinds.{allKnown}
 use Rattle.parsing.specs.Check.{argumentOf, largestOf, checked}
 use Rattle.parsing.specs.Covers.{Covers}
 use Rattle.parsing.specs.declared.Cursor.{Cursor}

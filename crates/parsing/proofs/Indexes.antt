@@ -7,8 +7,8 @@ use native.Mathlib.Omega.{arith}
 use lib.ListN.{drop}
 use Rattle.writing.proofs.Choose.{by-test}
 use Rattle.specifiers.specs.Specifier.{beginsWith}
-use Rattle.arguments.specs.declared.Index.the-variants as I
-use Rattle.arguments.proofs.Indexes.{NamedIn, index-in, same-in}
+use Rattle.parsing.specs.declared.arguments.Index.the-variants as I
+use Rattle.parsing.proofs.Named.{NamedIn, index-in, same-in}
 use Rattle.parsing.specs.Pieces.{argumentAt}
 use Rattle.parsing.specs.declared.Cursor.{Cursor}
 

@@ -13,10 +13,10 @@ use Rattle.specifiers.specs.declared.Specifier.{Specifier}
 use Rattle.specifiers.specs.declared.Specifier.the-variants as S
 use Rattle.specifiers.proofs.Bytes.{begins-inside}
 use Rattle.specifiers.proofs.Places.{SpecifierIn, specifier-in}
-use Rattle.arguments.specs.declared.Index.{Index}
-use Rattle.arguments.specs.declared.Index.the-variants as I
-use Rattle.arguments.proofs.Indexes.{NamedIn}
-use Rattle.scanning.specs.Texts.{textLength}
+use Rattle.parsing.specs.declared.arguments.Index.{Index}
+use Rattle.parsing.specs.declared.arguments.Index.the-variants as I
+use Rattle.parsing.proofs.Named.{NamedIn}
+use Rattle.parsing.specs.Texts.{textLength}
 use Rattle.parsing.specs.Pieces.{passed, argumentAt, afterSpecifier, afterIndex, elementAt, pieceAt}
 use Rattle.parsing.specs.declared.Piece.{Piece}
 use Rattle.parsing.specs.declared.Cursor.{Cursor}

@@ -9,7 +9,7 @@ use lib.ListN.{length, getD, drop}
 use borrow.Author.Tests.{ltb-true}
 use Rattle.refusals.specs.Limits.{mostPieces}
 use Rattle.writing.proofs.Choose.{by-test}
-use Rattle.conversions.specs.Kinds.{fitsKind}
+use Rattle.kinds.specs.Kinds.{fitsKind}
 use Rattle.specifiers.specs.Specifier.{beginsWith, letterAt, afterLetter, partsAt, afterParts, specifierAt}
 use Rattle.specifiers.specs.declared.LetterTaken.{LetterTaken}
 use Rattle.specifiers.specs.declared.LetterTaken.the-variants as L
@@ -18,9 +18,9 @@ use Rattle.specifiers.specs.declared.PartsTaken.{PartsTaken}
 use Rattle.specifiers.specs.declared.PartsTaken.the-variants as P
 use Rattle.specifiers.specs.declared.Specifier.{Specifier}
 use Rattle.specifiers.specs.declared.Specifier.the-variants as S
-use Rattle.arguments.specs.declared.Index.{Index}
-use Rattle.arguments.specs.declared.Index.the-variants as I
-use Rattle.arguments.proofs.Indexes.{NamedIn}
+use Rattle.parsing.specs.declared.arguments.Index.{Index}
+use Rattle.parsing.specs.declared.arguments.Index.the-variants as I
+use Rattle.parsing.proofs.Named.{NamedIn}
 use Rattle.parsing.specs.Pieces.{start, argumentAt, afterSpecifier, afterIndex, elementAt, pieceAt}
 use Rattle.parsing.specs.Listed.{Placed, andRest, placedFrom, placed}
 use Rattle.parsing.specs.Covers.{PieceIn}

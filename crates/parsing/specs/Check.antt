@@ -7,7 +7,7 @@ use lib.ListN.{length}
 use Rattle.refusals.specs.Limits.{mostFormat, mostKinds}
 use Rattle.writing.specs.Choose.{choose}
 use Rattle.utf8.specs.Utf8.{wellFormed}
-use Rattle.conversions.specs.Kinds.{allKnown}
+use Rattle.kinds.specs.Kinds.{allKnown}
 use Rattle.parsing.specs.Listed.{Placed, placed, ended}
 use Rattle.parsing.specs.declared.Piece.{Piece}
 use Rattle.parsing.specs.declared.Piece.the-variants.{Fixed, Byte, Element as AnElement}

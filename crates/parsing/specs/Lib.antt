@@ -1,3 +1,5 @@
+pub mod Texts
+pub mod Indexes
 pub mod Pieces
 pub mod Listed
 pub mod Check

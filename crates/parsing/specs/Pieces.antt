@@ -7,10 +7,10 @@ use Rattle.writing.specs.Choose.{choose}
 use Rattle.specifiers.specs.Specifier.{beginsWith, specifierAt}
 use Rattle.specifiers.specs.declared.Specifier.{Specifier}
 use Rattle.specifiers.specs.declared.Specifier.the-variants as S
-use Rattle.arguments.specs.Indexes.{indexAt, sameIndex}
-use Rattle.arguments.specs.declared.Index.{Index}
-use Rattle.arguments.specs.declared.Index.the-variants as I
-use Rattle.scanning.specs.Texts.{textLength}
+use Rattle.parsing.specs.Indexes.{indexAt, sameIndex}
+use Rattle.parsing.specs.declared.arguments.Index.{Index}
+use Rattle.parsing.specs.declared.arguments.Index.the-variants as I
+use Rattle.parsing.specs.Texts.{textLength}
 use Rattle.parsing.specs.declared.Piece.the-variants.{Fixed, Byte, Element as AnElement}
 use Rattle.parsing.specs.declared.Cursor.{Cursor}
 use Rattle.parsing.specs.declared.Step.{Step}

@@ -1,6 +1,9 @@
-// Reading a format: the next piece from a cursor on. A format checked against kinds is a pass over its pieces (`passes`, `printing::check`).
+// Reading a format: the next piece from a cursor on. A format checked against kinds is a pass over its pieces (`printing::passes`).
 // Ported from format_string.rs of datafusion-spark 55.2.0 (Apache-2.0; see NOTICE): Formatter::parse. The original keeps a
 // vector of elements; here a cursor reads the format again from an offset.
+pub mod arguments;
+pub mod scanning;
+
 use arguments::Index;
 use specifiers::Element;
 use specifiers::Specifier;
@@ -8,6 +11,7 @@ ghost use mathlib.Core.Path.{_≡_};
 ghost use Prim.Native.Nat.{_<_};
 ghost use lib.ListN.{length};
 ghost use Rattle.parsing.specs.Pieces.{start, passed, argumentAt, elementAt, pieceAt};
+ghost use Rattle.parsing.specs.Check.{argumentOf};
 ghost use Rattle.parsing.specs.Refusals.{IndexHanded, SpecifierHanded};
 
 // A piece: part of the format as it stands, a byte that does not stand in it (`%n`), or an element.
@@ -153,6 +157,17 @@ pub fn next_piece(fmt: &[u8], kinds: &[u8], c: Cursor) -> Step
         };
     }
     take_element(fmt, kinds, c)
+}
+
+// The argument that a piece uses, 0 for none.
+pub fn argument_of(piece: Piece) -> usize
+    ensures { λ r. ⌜ r ≡ argumentOf piece ⌝ }
+{
+    match piece {
+        Piece::Fixed { start: _, len: _ } => 0,
+        Piece::Byte(_) => 0,
+        Piece::Element(e) => e.argument,
+    }
 }
 
 // Before the first piece.

@@ -10,11 +10,11 @@ use Rattle.parsing.specs.declared.Ended.{Ended}
 use Rattle.parsing.specs.declared.Ended.the-variants.{Finished, Stopped}
 use Rattle.rows.specs.Row.{kindsOf}
 use Rattle.outcomes.specs.Printed.{texts, printedText, measuredEnd}
-use Rattle.tallies.specs.Tallies.{tallied, outcomeOf}
-use Rattle.passes.specs.Passes.{checkedOf, checkedBy, Walk}
-use Rattle.tallies.specs.declared.Tally.the-variants.{Length}
-use Rattle.passes.specs.declared.Walked.{Walked}
-use Rattle.tallies.proofs.Tallies.{tally-end}
+use Rattle.printing.specs.Tallies.{tallied, outcomeOf}
+use Rattle.printing.specs.Passes.{checkedOf, checkedBy, Walk}
+use Rattle.printing.specs.declared.tallies.Tally.the-variants.{Length}
+use Rattle.printing.specs.declared.passes.Walked.{Walked}
+use Rattle.printing.proofs.Counts.{tally-end}
 
 -- by where reading ended
 checked-by : (x : Ended) (ps : List Placed) → checkedOf x (length ps) (largestOf ps) ≡ checkedEnd x ps

@@ -19,10 +19,10 @@ use Rattle.outcomes.specs.Printed.{texts, printedText, endsFrom, Stop, firstSto
 use Rattle.outcomes.specs.declared.Outcome.{Outcome}
 use Rattle.outcomes.specs.declared.Outcome.the-variants.{Accepted, Refused}
 use Rattle.outcomes.proofs.Texts.{texts-length}
-use Rattle.tallies.specs.Tallies.{shownTexts, laidTexts, laidEnds}
+use Rattle.printing.specs.Tallies.{shownTexts, laidTexts, laidEnds}
 use Rattle.printing.specs.Stages.{stagedTexts, Staged}
-use Rattle.tallies.proofs.Fitting.{texts-none, ends-none, fitting-all, ends-all}
-use Rattle.tallies.proofs.Shown.{shown-all}
+use Rattle.printing.proofs.Fitting.{texts-none, ends-none, fitting-all, ends-all}
+use Rattle.printing.proofs.Shown.{shown-all}
 
 -- That an accepted call comes to all texts.
 abbrev Whole : List ℕ → List ℕ → List (List ℕ) → Outcome → Type 0

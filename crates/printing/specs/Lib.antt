@@ -1,2 +1,4 @@
+pub mod Passes
+pub mod Tallies
 pub mod Printing
 pub mod Stages

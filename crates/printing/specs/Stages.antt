@@ -10,7 +10,7 @@ use Rattle.writing.specs.Choose.{choose}
 use Rattle.utf8.specs.Utf8.{wellFormed}
 use Rattle.parsing.specs.Listed.{placed}
 use Rattle.rows.specs.Row.{kindsOf, isRow}
-use Rattle.tallies.specs.Tallies.{shownTexts, laidTexts, laidEnds}
+use Rattle.printing.specs.Tallies.{shownTexts, laidTexts, laidEnds}
 
 -- The texts that a call comes to: those of the pieces before one that is refused or not printed; none where 1, 2 or 14 stops the call.
 unfoldable pub stagedTexts : List ℕ → List ℕ → List (List ℕ)

@@ -2,6 +2,9 @@
 // Ported from format_string.rs of datafusion-spark 55.2.0 (Apache-2.0; see NOTICE): the loops of Formatter::parse and Formatter::format. The original
 // pushes the text of each element to a string; here one pass over the pieces finds every refusal and the text's length, and writes as far as it has
 // room; what is lent to a caller is written only once no refusal is left.
+pub mod passes;
+pub mod tallies;
+
 use outcomes::Outcome;
 use parsing::Checked;
 use parsing::Ended;
@@ -14,8 +17,8 @@ ghost use Rattle.parsing.specs.Check.{checked};
 ghost use Rattle.parsing.specs.declared.Ended.the-variants.{Finished};
 ghost use Rattle.outcomes.specs.Printed.{texts, printedText, endsFrom, measured, ifRoom, printed, written};
 ghost use Rattle.printing.specs.Stages.{Staged};
-ghost use Rattle.tallies.specs.Tallies.{outcomeOf};
-ghost use Rattle.passes.specs.Passes.{checkedBy};
+ghost use Rattle.printing.specs.Tallies.{outcomeOf};
+ghost use Rattle.printing.specs.Passes.{checkedBy};
 ghost use Rattle.outcomes.specs.Demand.{Demanded};
 
 // The answer of checking, from a pass.
@@ -59,7 +62,7 @@ pub fn check<'a>(fmt: &'a [u8], kinds: &'a [u8]) -> Checked
             place: 0,
         };
     }
-    if !conversions::all_known(kinds) {
+    if !kinds::all_known(kinds) {
         return Checked::Refused {
             number: refusals::BAD_KINDS,
             place: 0,

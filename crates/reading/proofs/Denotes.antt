@@ -9,8 +9,8 @@ use lib.Dec.{ltb, eqb, lit≤}
 use lib.Pow.{pow-pos}
 use borrow.Author.Tests.{lt-ltb, le-ltb, le-leb, lt-leb, eq-eqb, ne-eqb, ltb-true, ltb-false}
 use Rattle.writing.proofs.Choose.{by-test}
-use Rattle.params.specs.declared.NumericParam.{NumericParam}
-use Rattle.params.specs.declared.NumericParam.the-variants.{Literal, FromArgument}
+use Rattle.numerals.specs.declared.NumericParam.{NumericParam}
+use Rattle.numerals.specs.declared.NumericParam.the-variants.{Literal, FromArgument}
 use Rattle.binary64.specs.Fields.{negative, exponentField, fractionField, significand, units, scaledBits}
 use Rattle.binary64.specs.HexFloat.{zeroForm, normalForm, subnormalForm, shortest, rounded, normalOf, subnormalOf, hexFloatOf}
 use Rattle.binary64.specs.declared.HexFloat.{HexFloat}

@@ -3,9 +3,9 @@ use lib.Dec.{T}
 use lib.Ieee.{mul, ofBits, toBits}
 use Rattle.writing.specs.Laid.{laid}
 use Rattle.numerals.specs.Digits.{digitsIn, places, placesWithin, digits, letterOf, lettersOf, numberFrom, numberOf, numeral}
-use Rattle.grouping.specs.Grouping.{grouped}
-use Rattle.integers.specs.Integers.{intOf, bitsOf}
-use Rattle.params.specs.Params.{leadingDigits, numberTaken, numberAt, paramAt}
+use Rattle.numerals.specs.Grouping.{grouped}
+use Rattle.numerals.specs.Integers.{intOf, bitsOf}
+use Rattle.specifiers.specs.Params.{leadingDigits, numberTaken, numberAt, paramAt}
 use Rattle.frames.specs.Frame.{spaces, headText, tailText, framed, spare, frameOf}
 use Rattle.binary64.specs.Fields.{negative, exponentField, fractionField, categoryOf, significand, units, scaledBits}
 use Rattle.binary64.specs.Rounding.{nearestTo, keptDigits}

@@ -11,8 +11,8 @@ use lib.Dec.{eqb, lit<, lit≤}
 use lib.ListN.{length, replicate, length-append}
 use Rattle.writing.specs.Choose.{choose}
 use Rattle.numerals.specs.Digits.{digits, places, letterOf, lettersOf, numberOf, numeral, decimal}
-use Rattle.grouping.specs.Grouping.{grouped}
-use Rattle.integers.specs.Integers.{signed}
+use Rattle.numerals.specs.Grouping.{grouped}
+use Rattle.numerals.specs.Integers.{signed}
 use Rattle.numerals.proofs.Digits.{Below, below-append, below-digitsIn, below-zeros, letters-append}
 use Rattle.numerals.proofs.Digits.{length-digitsIn, number-append, number-zeros, number-digits, places-pos}
 use Rattle.frames.specs.Frame.{closing, marks, spaces, headText, tailText, framed}

@@ -12,7 +12,7 @@ use lib.ListN.{length, replicate}
 use borrow.Author.Tests.{lt-ltb, le-ltb, le-leb, lt-leb, ne-eqb}
 use Rattle.writing.specs.Choose.{choose}
 use Rattle.numerals.specs.Digits.{letterOf, lettersOf}
-use Rattle.grouping.specs.Grouping.{grouped, commaAfter}
+use Rattle.numerals.specs.Grouping.{grouped, commaAfter}
 use Rattle.numerals.proofs.Digits.{Below}
 use Rattle.frames.specs.Frame.{spaces}
 use Rattle.reading.specs.Kept.{kept, isDropped, small}

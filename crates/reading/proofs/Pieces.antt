@@ -8,8 +8,8 @@ use Prim.Native.Char.{code}
 use lib.Dec.{lit≤}
 use Rattle.writing.specs.Choose.{choose}
 use Rattle.numerals.specs.Digits.{digits, lettersOf}
-use Rattle.integers.specs.Integers.{signed}
-use Rattle.params.specs.declared.NumericParam.{NumericParam}
+use Rattle.numerals.specs.Integers.{signed}
+use Rattle.numerals.specs.declared.NumericParam.{NumericParam}
 use Rattle.frames.specs.Frame.{closing}
 use Rattle.frames.specs.Signs.{isMinus}
 use Rattle.frames.specs.declared.Mark.{Mark}

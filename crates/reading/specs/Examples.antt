@@ -9,12 +9,12 @@ use lib.IntN.{ℤ, pos, negsuc, natAbs}
 use Rattle.writing.specs.Text.{ascii}
 use Rattle.writing.specs.Laid.{laid}
 use Rattle.numerals.specs.Digits.{digitsIn, places, lettersOf, numberOf, numeral, decimal}
-use Rattle.grouping.specs.Grouping.{grouped}
-use Rattle.integers.specs.Integers.{intOf, bitsOf}
-use Rattle.params.specs.Params.{paramAt}
-use Rattle.params.specs.declared.NumericParam.the-variants.{Literal, FromArgument}
-use Rattle.params.specs.declared.Taken.{Taken}
-use Rattle.params.specs.declared.Taken.the-variants.{Param, TooLarge}
+use Rattle.numerals.specs.Grouping.{grouped}
+use Rattle.numerals.specs.Integers.{intOf, bitsOf}
+use Rattle.specifiers.specs.Params.{paramAt}
+use Rattle.numerals.specs.declared.NumericParam.the-variants.{Literal, FromArgument}
+use Rattle.specifiers.specs.declared.params.Taken.{Taken}
+use Rattle.specifiers.specs.declared.params.Taken.the-variants.{Param, TooLarge}
 use Rattle.frames.specs.Frame.{framed, frameOf}
 use Rattle.frames.specs.declared.Mark.the-variants.{NoMark, Plus, Space, Minus, Brackets}
 use Rattle.frames.specs.declared.Prefix.the-variants.{NoPrefix, Octal, HexLower, HexUpper}

@@ -8,7 +8,7 @@ use lib.Dec.{leb, ltb, eqb}
 use lib.IntN.{ℤ}
 use lib.ListN.{length}
 use Rattle.writing.specs.Choose.{choose}
-use Rattle.integers.specs.Integers.{signed}
+use Rattle.numerals.specs.Integers.{signed}
 use Rattle.reading.specs.Kept.{kept}
 
 -- f of what a step found; nothing where it found nothing

@@ -2,7 +2,7 @@
 use Prim.Native.Nat.{ℕ, _+_, _≤_, _<_}
 use mathlib.Core.List.{List}
 use lib.ListN.{length}
-use Rattle.statements.specs.Places.{TextLies}
+use Rattle.records.specs.Stated.{TextLies}
 use Rattle.records.specs.declared.End.{End}
 use Rattle.records.specs.declared.End.the-variants.{At, Outside}
 use Rattle.records.specs.declared.Read.{Read}

@@ -6,8 +6,8 @@ use lib.Dec.{eqb, leb, ltb}
 use lib.ListN.{length, getD}
 use Rattle.writing.specs.Choose.{choose}
 use Rattle.words.specs.LittleEndian.{wordAt}
-use Rattle.statements.specs.Comparing.{between}
-use Rattle.statements.specs.declared.Stated.the-variants.{Accepts, Prints, Refuses}
+use Rattle.records.specs.Comparing.{between}
+use Rattle.records.specs.declared.statements.Stated.the-variants.{Accepts, Prints, Refuses}
 use Rattle.records.specs.declared.End.{End}
 use Rattle.records.specs.declared.End.the-variants.{At, Outside}
 use Rattle.records.specs.declared.Read.{Read}

@@ -1,4 +1,6 @@
 // The records of a list of vectors: one is read, it is counted, and the counts of lists are added up. crates/vectors/README.md has the layout.
+pub mod statements;
+
 use statements::Stated;
 ghost use mathlib.Core.Path.{_≡_};
 ghost use Prim.Native.Nat.{_+_, _≤_, _<_};

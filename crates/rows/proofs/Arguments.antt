@@ -9,10 +9,10 @@ use lib.Seq.{drop-drop}
 use borrow.Author.Tests.{eqb-true, ltb-true, leb-true}
 use Rattle.refusals.specs.Limits.{mostValues}
 use Rattle.writing.proofs.Choose.{by-test, both}
-use Rattle.conversions.specs.Kinds.{kindOf}
-use Rattle.conversions.specs.declared.Kind.the-variants as K
-use Rattle.conversions.specs.declared.KindByte.the-variants.{Known}
-use Rattle.entries.specs.Entry.{isNull, entryOf}
+use Rattle.kinds.specs.Kinds.{kindOf}
+use Rattle.kinds.specs.declared.Kind.the-variants as K
+use Rattle.kinds.specs.declared.KindByte.the-variants.{Known}
+use Rattle.rows.specs.Entry.{isNull, entryOf}
 use Rattle.rows.specs.Row.{countOf, textArea, kindByteOf, valueOf, namedText, entryAt}
 use Rattle.rows.specs.Arguments.{Argument, isText, handedOut}
 use Rattle.rows.proofs.Rows.{row-shape, text-length, entry}

@@ -1,3 +1,4 @@
-mod Entries
+pub mod Widths
+mod EntryList
 pub mod Rows
 mod Arguments

@@ -1,2 +1,4 @@
+pub mod Entry
+pub mod Widths
 pub mod Row
 pub mod Arguments

@@ -7,8 +7,8 @@ use lib.Dec.{leb, eqb}
 use lib.ListN.{length, getD, take, drop}
 use Rattle.refusals.specs.Limits.{mostValues, mostText}
 use Rattle.words.specs.LittleEndian.{wordAt}
-use Rattle.conversions.specs.Kinds.{kindOf}
-use Rattle.entries.specs.Entry.{isNull, partOf, entryOf}
+use Rattle.kinds.specs.Kinds.{kindOf}
+use Rattle.rows.specs.Entry.{isNull, partOf, entryOf}
 
 -- n and t
 abbrev pub countOf : List ℕ → ℕ

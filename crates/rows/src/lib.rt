@@ -1,4 +1,6 @@
 // The row of values: its layout tested, and the kind and value of each argument.
+pub mod entries;
+
 ghost use mathlib.Core.Path.{_≡_};
 ghost use Prim.Native.Nat.{_+_, _*_, _^_, _≤_, _<_};
 ghost use lib.ListN.{length};

@@ -10,9 +10,9 @@ use lib.ListN.{drop}
 use borrow.Author.Tests.{leb-true, ne-eqb, le-leb, lt-leb}
 use Rattle.writing.specs.Text.{has}
 use Rattle.writing.proofs.Bytes.{other}
-use Rattle.params.specs.Params.{isParam, paramAt}
-use Rattle.params.specs.declared.NumericParam.the-variants.{FromArgument}
-use Rattle.flags.specs.Flags.{isFlag, leadingFlags, flagsOf, firstClash, flagsAt}
+use Rattle.specifiers.specs.Params.{isParam, paramAt}
+use Rattle.numerals.specs.declared.NumericParam.the-variants.{FromArgument}
+use Rattle.specifiers.specs.Flags.{isFlag, leadingFlags, flagsOf, firstClash, flagsAt}
 use Rattle.specifiers.specs.Specifier.{beginsWith, precisionAt, partsAt}
 use Rattle.specifiers.specs.Refusals.{beginsLetter}
 use Rattle.specifiers.specs.declared.PartsTaken.the-variants as P

@@ -10,26 +10,26 @@ use lib.Dec.{eqb}
 use lib.ListN.{length, drop, length-drop}
 use Rattle.writing.proofs.Choose.{by-test}
 use Rattle.writing.proofs.Bytes.{no-byte}
-use Rattle.params.specs.Params.{isParam, numberAt, paramOf, paramAt}
-use Rattle.params.specs.declared.NumericParam.{NumericParam}
-use Rattle.params.specs.declared.Number.{Number}
-use Rattle.params.specs.declared.Number.the-variants as N
-use Rattle.params.specs.declared.Taken.{Taken}
-use Rattle.params.specs.declared.Taken.the-variants.{Param, TooLarge}
-use Rattle.params.proofs.Params.{NumberIn, number-in}
-use Rattle.letters.specs.Letters.{timeOf, smallOf, capitalOf}
-use Rattle.conversions.specs.Kinds.{fitsKind}
-use Rattle.letters.specs.declared.Letter.{Letter}
-use Rattle.letters.specs.declared.Letter.the-variants.{Conversion, NoConversion}
-use Rattle.letters.specs.declared.TimeLetter.{TimeLetter}
-use Rattle.letters.specs.declared.TimeLetter.the-variants.{Component, NoComponent}
-use Rattle.flags.specs.Flags.{leadingFlags, firstClash, flagsTaken, flagsAt}
+use Rattle.specifiers.specs.Params.{isParam, numberAt, paramOf, paramAt}
+use Rattle.numerals.specs.declared.NumericParam.{NumericParam}
+use Rattle.specifiers.specs.declared.params.Number.{Number}
+use Rattle.specifiers.specs.declared.params.Number.the-variants as N
+use Rattle.specifiers.specs.declared.params.Taken.{Taken}
+use Rattle.specifiers.specs.declared.params.Taken.the-variants.{Param, TooLarge}
+use Rattle.specifiers.proofs.Numbers.{NumberIn, number-in}
+use Rattle.kinds.specs.Letters.{timeOf, smallOf, capitalOf}
+use Rattle.kinds.specs.Kinds.{fitsKind}
+use Rattle.kinds.specs.declared.letters.Letter.{Letter}
+use Rattle.kinds.specs.declared.letters.Letter.the-variants.{Conversion, NoConversion}
+use Rattle.kinds.specs.declared.letters.TimeLetter.{TimeLetter}
+use Rattle.kinds.specs.declared.letters.TimeLetter.the-variants.{Component, NoComponent}
+use Rattle.specifiers.specs.Flags.{leadingFlags, firstClash, flagsTaken, flagsAt}
 use Rattle.specifiers.specs.Specifier.{beginsWith, precisionAt, afterPrecision, afterWidth, afterFlags, partsAt}
 use Rattle.specifiers.specs.Specifier.{capitalTaken, oneLetter, timeLetter, secondLetter, letterFrom, letterAt}
 use Rattle.specifiers.specs.Specifier.{afterLetter, afterParts, specifierAt}
-use Rattle.flags.specs.declared.Flags.{Flags}
-use Rattle.flags.specs.declared.FlagsTaken.{FlagsTaken}
-use Rattle.flags.specs.declared.FlagsTaken.the-variants as F
+use Rattle.specifiers.specs.declared.flags.Flags.{Flags}
+use Rattle.specifiers.specs.declared.flags.FlagsTaken.{FlagsTaken}
+use Rattle.specifiers.specs.declared.flags.FlagsTaken.the-variants as F
 use Rattle.specifiers.specs.declared.LetterTaken.{LetterTaken}
 use Rattle.specifiers.specs.declared.LetterTaken.the-variants as L
 use Rattle.specifiers.specs.declared.Parts.{Parts}

@@ -5,8 +5,8 @@ use mathlib.Core.Path.{_≡_}
 use mathlib.Core.Bool.{Bool, false}
 use mathlib.Core.List.{List, [], _∷_}
 use lib.Dec.{leb}
-use Rattle.flags.specs.declared.FlagsTaken.{FlagsTaken}
-use Rattle.flags.specs.declared.FlagsTaken.the-variants as F
+use Rattle.specifiers.specs.declared.flags.FlagsTaken.{FlagsTaken}
+use Rattle.specifiers.specs.declared.flags.FlagsTaken.the-variants as F
 use Rattle.specifiers.specs.declared.PartsTaken.{PartsTaken}
 use Rattle.specifiers.specs.declared.PartsTaken.the-variants as P
 use Rattle.specifiers.specs.declared.LetterTaken.{LetterTaken}

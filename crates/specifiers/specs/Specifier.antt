@@ -6,23 +6,23 @@ use mathlib.Core.List.{List, [], _∷_}
 use lib.Dec.{eqb}
 use lib.ListN.{drop}
 use Rattle.writing.specs.Choose.{choose}
-use Rattle.params.specs.Params.{paramAt}
-use Rattle.params.specs.declared.NumericParam.{NumericParam}
-use Rattle.params.specs.declared.NumericParam.the-variants.{FromArgument}
-use Rattle.params.specs.declared.Taken.{Taken}
-use Rattle.params.specs.declared.Taken.the-variants.{Param, TooLarge}
-use Rattle.letters.specs.Letters.{timeOf, smallOf, capitalOf}
-use Rattle.conversions.specs.Kinds.{fitsKind}
-use Rattle.letters.specs.declared.ConversionType.{ConversionType}
-use Rattle.letters.specs.declared.ConversionType.the-variants.{Time}
-use Rattle.letters.specs.declared.Letter.{Letter}
-use Rattle.letters.specs.declared.Letter.the-variants.{Conversion, NoConversion}
-use Rattle.letters.specs.declared.TimeLetter.{TimeLetter}
-use Rattle.letters.specs.declared.TimeLetter.the-variants.{Component, NoComponent}
-use Rattle.flags.specs.Flags.{flagsAt}
-use Rattle.flags.specs.declared.Flags.{Flags}
-use Rattle.flags.specs.declared.FlagsTaken.{FlagsTaken}
-use Rattle.flags.specs.declared.FlagsTaken.the-variants as F
+use Rattle.specifiers.specs.Params.{paramAt}
+use Rattle.numerals.specs.declared.NumericParam.{NumericParam}
+use Rattle.numerals.specs.declared.NumericParam.the-variants.{FromArgument}
+use Rattle.specifiers.specs.declared.params.Taken.{Taken}
+use Rattle.specifiers.specs.declared.params.Taken.the-variants.{Param, TooLarge}
+use Rattle.kinds.specs.Letters.{timeOf, smallOf, capitalOf}
+use Rattle.kinds.specs.Kinds.{fitsKind}
+use Rattle.kinds.specs.declared.letters.ConversionType.{ConversionType}
+use Rattle.kinds.specs.declared.letters.ConversionType.the-variants.{Time}
+use Rattle.kinds.specs.declared.letters.Letter.{Letter}
+use Rattle.kinds.specs.declared.letters.Letter.the-variants.{Conversion, NoConversion}
+use Rattle.kinds.specs.declared.letters.TimeLetter.{TimeLetter}
+use Rattle.kinds.specs.declared.letters.TimeLetter.the-variants.{Component, NoComponent}
+use Rattle.specifiers.specs.Flags.{flagsAt}
+use Rattle.specifiers.specs.declared.flags.Flags.{Flags}
+use Rattle.specifiers.specs.declared.flags.FlagsTaken.{FlagsTaken}
+use Rattle.specifiers.specs.declared.flags.FlagsTaken.the-variants as F
 use Rattle.specifiers.specs.declared.LetterTaken.{LetterTaken}
 use Rattle.specifiers.specs.declared.LetterTaken.the-variants as L
 use Rattle.specifiers.specs.declared.Parts.{Parts}

@@ -1,11 +1,14 @@
 // What stands behind an element's index: flags, width, precision and letter.
 // Ported from format_string.rs of datafusion-spark 55.2.0 (Apache-2.0; see NOTICE): take_conversion_specifier.
+pub mod flags;
+pub mod params;
+
 use flags::Flags;
 use flags::FlagsTaken;
-use letters::ConversionType;
-use letters::Letter;
-use letters::TimeLetter;
-use params::NumericParam;
+use kinds::letters::ConversionType;
+use kinds::letters::Letter;
+use kinds::letters::TimeLetter;
+use numerals::NumericParam;
 use params::Taken;
 ghost use mathlib.Core.Path.{_≡_};
 ghost use Prim.Native.Nat.{_<_};
@@ -85,7 +88,7 @@ fn take_time_letter(fmt: &[u8], at: usize, upper: bool) -> LetterTaken
             number: refusals::NO_TIME_LETTER,
         };
     }
-    let TimeLetter::Component(x) = letters::time_of(fmt[second]) else {
+    let TimeLetter::Component(x) = kinds::letters::time_of(fmt[second]) else {
         return LetterTaken::Refused {
             number: refusals::NO_TIME_LETTER,
         };
@@ -113,8 +116,8 @@ fn take_letter(fmt: &[u8], at: usize) -> LetterTaken
     if b == b'T' {
         return take_time_letter(fmt, at, true);
     }
-    let Letter::Conversion(c) = letters::small_letter(b) else {
-        let Letter::Conversion(d) = letters::capital_letter(b) else {
+    let Letter::Conversion(c) = kinds::letters::small_letter(b) else {
+        let Letter::Conversion(d) = kinds::letters::capital_letter(b) else {
             return LetterTaken::Refused {
                 number: refusals::NO_LETTER,
             };
@@ -239,7 +242,7 @@ pub fn take_conversion_specifier(fmt: &[u8], at: usize, argument: usize, kind: u
     else {
         return letter_refusal(letter);
     };
-    if conversions::validate(conversion, kind) {
+    if kinds::validate(conversion, kind) {
         let flags = parts.flags;
         let width = parts.width;
         let precision = parts.precision;

@@ -1,2 +1,3 @@
+pub mod ScalarValues
 mod Utf8
 mod Laws

@@ -1,2 +1,3 @@
+pub mod Scalars
 pub mod Utf8
 pub mod Largest

@@ -1,4 +1,6 @@
 // UTF-8: one test of well-formedness, for formats and for the texts of a row.
+pub mod scalars;
+
 ghost use mathlib.Core.Path.{_≡_};
 ghost use Prim.Native.Nat.{_≤_, _<_, max};
 ghost use Rattle.utf8.specs.Utf8.{leadOf, wellFormed};

@@ -15,8 +15,8 @@ use Rattle.outcomes.specs.declared.Outcome.the-variants.{Accepted, Refused}
 use Rattle.outcomes.proofs.Accepted.{Accepts, fitted}
 use Rattle.outcomes.proofs.Joined.{ends-length}
 use Rattle.outcomes.proofs.Texts.{texts-length}
-use Rattle.statements.specs.Comparing.{statesPrinted}
-use Rattle.statements.specs.declared.Stated.{Stated}
+use Rattle.records.specs.Comparing.{statesPrinted}
+use Rattle.records.specs.declared.statements.Stated.{Stated}
 use Rattle.vectors.specs.Right.{statesOutcome}
 use Rattle.vectors.specs.Left.{statesLeft, InRoom}
 

@@ -5,8 +5,8 @@ use mathlib.Core.List.{List}
 use lib.ListN.{take}
 use Rattle.outcomes.specs.declared.Outcome.{Outcome}
 use Rattle.outcomes.specs.declared.Outcome.the-variants.{Accepted, Refused}
-use Rattle.statements.specs.Comparing.{statesRefused, statesPrinted}
-use Rattle.statements.specs.declared.Stated.{Stated}
+use Rattle.records.specs.Comparing.{statesRefused, statesPrinted}
+use Rattle.records.specs.declared.statements.Stated.{Stated}
 
 abbrev pub statesLeft : List ℕ → Stated → List ℕ → List ℕ → Outcome → Bool
 statesLeft s stated out ends (Accepted n k) = statesPrinted s stated n k (take n out) (take k ends)

@@ -10,8 +10,8 @@ use Rattle.parsing.specs.declared.Checked.the-variants as C
 use Rattle.outcomes.specs.Printed.{texts, printedText, endsFrom, printed}
 use Rattle.outcomes.specs.declared.Outcome.{Outcome}
 use Rattle.outcomes.specs.declared.Outcome.the-variants.{Accepted, Refused}
-use Rattle.statements.specs.Comparing.{statesAccepted, statesRefused, statesPrinted}
-use Rattle.statements.specs.declared.Stated.{Stated}
+use Rattle.records.specs.Comparing.{statesAccepted, statesRefused, statesPrinted}
+use Rattle.records.specs.declared.statements.Stated.{Stated}
 use Rattle.records.specs.Records.{formatOf, valuesOf}
 use Rattle.records.specs.declared.Record.{Record}
 

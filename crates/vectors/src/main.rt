@@ -5,11 +5,11 @@ use parsing::Checked;
 use records::Found;
 use records::Record;
 use records::Tally;
-use statements::Stated;
+use records::statements::Stated;
 ghost use mathlib.Core.Path.{_≡_};
 ghost use Prim.Native.Nat.{_+_, _≤_, _<_};
 ghost use lib.ListN.{length};
-ghost use Rattle.statements.specs.Places.{TextLies};
+ghost use Rattle.records.specs.Stated.{TextLies};
 ghost use Rattle.records.specs.Places.{Lies};
 ghost use Rattle.records.specs.Verdicts.{verdicts, Counts, withVerdict};
 ghost use Rattle.vectors.specs.Right.{statesChecked, checksRight, printsRight, isRight};
@@ -20,8 +20,16 @@ fn is_answered(stated: Stated, found: Checked) -> bool
     ensures { λ r. ⌜ r ≡ statesChecked stated found ⌝ }
 {
     match found {
-        Checked::Accepted { pieces, largest } => statements::is_accepted(stated, pieces, largest),
-        Checked::Refused { number, place } => statements::is_refused(stated, number, place),
+        Checked::Accepted { pieces, largest } => records::statements::is_accepted(
+            stated,
+            pieces,
+            largest,
+        ),
+        Checked::Refused { number, place } => records::statements::is_refused(
+            stated,
+            number,
+            place,
+        ),
     }
 }
 
@@ -47,9 +55,13 @@ fn is_left(list: &[u8], stated: Stated, found: Outcome, out: &[u8], ends: &[u32]
         Outcome::Accepted { length, pieces } => {
             let n = length as usize;
             let k = pieces as usize;
-            statements::is_printed(list, stated, &out[..n], &ends[..k])
+            records::statements::is_printed(list, stated, &out[..n], &ends[..k])
         }
-        Outcome::Refused { number, place } => statements::is_refused(stated, number, place),
+        Outcome::Refused { number, place } => records::statements::is_refused(
+            stated,
+            number,
+            place,
+        ),
     }
 }
 

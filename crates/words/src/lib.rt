@@ -36,7 +36,7 @@ pub fn eight(s: &[u8], at: usize) -> u64
 }
 
 // A number as four bytes.
-pub fn write_four(out: &mut [u8], n: u32)
+fn write_four(out: &mut [u8], n: u32)
     requires { ⌜ 4 ≤ length (now out) ⌝ }
     ensures { λ r. ⌜ now (out .exit) ≡ laid (now (out .entry)) (bytesOf 4 n) ⌝ }
 {

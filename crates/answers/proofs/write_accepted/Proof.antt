@@ -6,8 +6,8 @@ use lib.ListN.{length, length-take, length-drop}
 use native.Mathlib.Omega.{arith}
 use Rattle.writing.proofs.Chained.{wrote-two}
 use Rattle.writing.specs.Text.{ascii}
-use Rattle.lines.specs.Lines.{line, numbersLine, endLines}
-use Rattle.lines.proofs.Lines.{line-length}
+use Rattle.answers.specs.Lines.{line, numbersLine, endLines}
+use Rattle.answers.proofs.LineTexts.{line-length}
 use borrow.Author.Needs.{needs}
 use Rattle.answers.proofs.write_accepted.Statement.{statement}
 use Rattle.answers.proofs.write_accepted.Tie as tie

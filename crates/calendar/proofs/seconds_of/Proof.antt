@@ -4,7 +4,7 @@ use mathlib.Core.Bool.{true, false}
 use mathlib.Core.Path.{_≡_, _∙_, sym}
 use native.Mathlib.Omega.{arith}
 use lib.IntN.{natAbs}
-use Rattle.integers.specs.Integers.{intOf, isNegative}
+use Rattle.numerals.specs.Integers.{intOf, isNegative}
 use Rattle.calendar.proofs.Epoch.{magnitude-within, forward, back}
 use borrow.Author.Needs.{needs}
 use Rattle.calendar.proofs.seconds_of.Statement.{statement}

@@ -2,10 +2,10 @@
 use mathlib.Core.Path.{sym}
 use lib.Seq.{length-take-le}
 use native.Mathlib.Omega.{arith}
-use Rattle.integers.specs.Integers.{intOf}
-use Rattle.strings.proofs.Cased.{length-cased}
+use Rattle.numerals.specs.Integers.{intOf}
+use Rattle.fields.proofs.Cased.{length-cased}
 use Rattle.writing.proofs.Laid.{wrote-start}
-use Rattle.components.specs.Components.{componentText}
+use Rattle.dates.specs.Components.{componentText}
 use borrow.Author.Needs.{needs}
 use Rattle.dates.proofs.put_component.Statement.{statement}
 use Rattle.dates.proofs.put_component.Tie as tie

@@ -1,6 +1,6 @@
 -- `dates::write_component` meets its contract. Assumes nothing.
 use native.Mathlib.Omega.{arith}
-use Rattle.components.specs.Components.{componentText}
+use Rattle.dates.specs.Components.{componentText}
 use Rattle.dates.proofs.Symbols.{room-of-pattern}
 use borrow.Author.Needs.{needs}
 use Rattle.dates.proofs.write_component.Statement.{statement}

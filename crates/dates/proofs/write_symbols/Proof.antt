@@ -7,9 +7,9 @@ use lib.Seq.{take-all}
 use Rattle.writing.specs.Writers.{Wrote}
 use Rattle.writing.proofs.Laid.{laid-none, length-laid}
 use Rattle.writing.proofs.Chained.{wrote-two}
-use Rattle.integers.specs.Integers.{intOf}
-use Rattle.components.specs.Components.{symbolsText}
-use Rattle.components.specs.Steps.{roomOf, roomFor}
+use Rattle.numerals.specs.Integers.{intOf}
+use Rattle.dates.specs.Components.{symbolsText}
+use Rattle.dates.specs.Steps.{roomOf, roomFor}
 use Rattle.dates.proofs.Symbols.{text-next, room-next, room-within}
 use borrow.Author.Needs.{needs}
 use Rattle.dates.proofs.write_symbols.Statement.{statement}

@@ -4,7 +4,7 @@ use mathlib.Core.Path.{sym, _∙_}
 use lib.ListN.{length-take}
 use lib.Seq.{length-take-le}
 use native.Mathlib.Omega.{arith}
-use Rattle.scalars.proofs.Scalars.{scalar-length}
+use Rattle.utf8.proofs.ScalarValues.{scalar-length}
 use Rattle.writing.proofs.Laid.{wrote-start}
 use Rattle.elements.proofs.Characters.{scalar-within}
 use Rattle.elements.proofs.Shown.{sized-text, sized-stop}

@@ -2,7 +2,7 @@
 use mathlib.Core.Path.{ap}
 use lib.ListN.{length}
 use native.Mathlib.Omega.{arith}
-use Rattle.strings.proofs.Cuts.{cut-shorter}
+use Rattle.fields.proofs.Cuts.{cut-shorter}
 use borrow.Author.Needs.{needs}
 use Rattle.fields.proofs.format_string.Statement.{statement}
 use Rattle.fields.proofs.format_string.Tie as tie

@@ -4,13 +4,13 @@ use lib.ListN.{length}
 use native.Mathlib.Omega.{arith}
 use mathlib.Core.Path.{_≡_, sym}
 use mathlib.Core.Bool.{true}
-use Rattle.params.specs.Params.{widthOf}
+use Rattle.specifiers.specs.Params.{widthOf}
 use Rattle.frames.specs.Frame.{frameOf}
-use Rattle.layout.specs.Around.{FramePut}
+use Rattle.frames.specs.Around.{FramePut}
 use Rattle.frames.specs.declared.Prefix.the-variants.{NoPrefix}
-use Rattle.layout.proofs.Padded.{framed-room, framed-put, framed-not}
-use Rattle.strings.specs.Cut.{cased}
-use Rattle.strings.proofs.Cased.{length-cased}
+use Rattle.frames.proofs.Around.{framed-room, framed-put, framed-not}
+use Rattle.fields.specs.Cut.{cased}
+use Rattle.fields.proofs.Cased.{length-cased}
 use Rattle.fields.specs.Texts.{side}
 use borrow.Author.Needs.{needs}
 use Rattle.fields.proofs.put_padded.Statement.{statement}

@@ -6,7 +6,7 @@ use mathlib.Core.List.{List}
 use lib.ListN.{length, length-take, length-drop}
 use native.Mathlib.Omega.{arith}
 use Rattle.frames.specs.Frame.{padded}
-use Rattle.layout.proofs.Padded.{framed-room, framed-put, framed-not}
+use Rattle.frames.proofs.Around.{framed-room, framed-put, framed-not}
 use Rattle.hexfloats.specs.Texts.{hexFloatText}
 use Rattle.hexfloats.proofs.Texts.{hex-length, exponent-length}
 use Rattle.numbers.specs.Numbers.{finiteText}

@@ -4,7 +4,7 @@ use native.Mathlib.Omega.{arith}
 use Rattle.numerals.specs.Bases.{baseOf}
 use Rattle.numerals.proofs.Digits.{twenty-places, length-numeral}
 use Rattle.numerals.proofs.Bases.{based-places}
-use Rattle.grouping.proofs.Grouping.{length-grouped-decimal}
+use Rattle.numerals.proofs.Commas.{length-grouped-decimal}
 use borrow.Author.Needs.{needs}
 use Rattle.numbers.proofs.numeral_len.Statement.{statement}
 use Rattle.numbers.proofs.numeral_len.Tie as tie

@@ -4,10 +4,10 @@ use lib.ListN.{length}
 use native.Mathlib.Omega.{arith}
 use mathlib.Core.Path.{_≡_}
 use mathlib.Core.Bool.{true}
-use Rattle.params.specs.Params.{widthOf}
+use Rattle.specifiers.specs.Params.{widthOf}
 use Rattle.frames.specs.Frame.{frameOf}
-use Rattle.layout.specs.Around.{FramePut}
-use Rattle.layout.proofs.Padded.{framed-room, framed-put, framed-not}
+use Rattle.frames.specs.Around.{FramePut}
+use Rattle.frames.proofs.Around.{framed-room, framed-put, framed-not}
 use Rattle.numbers.specs.Numbers.{fill}
 use Rattle.numbers.specs.Numerals.{digitsText}
 use borrow.Author.Needs.{needs}

@@ -10,7 +10,7 @@ use borrow.Author.Tests.{eq-eqb, ne-eqb}
 use Rattle.writing.specs.Choose.{choose}
 use Rattle.writing.proofs.Bytes.{no-byte}
 use Rattle.specifiers.proofs.Bytes.{begins-at}
-use Rattle.scanning.specs.Texts.{textLength}
+use Rattle.parsing.specs.Texts.{textLength}
 use Rattle.parsing.specs.Pieces.{passed, elementAt, pieceAt}
 use Rattle.parsing.specs.declared.Piece.the-variants.{Byte}
 use Rattle.parsing.specs.declared.Step.the-variants.{Found}

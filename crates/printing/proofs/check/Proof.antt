@@ -6,7 +6,7 @@ use lib.ListN.{length}
 use borrow.Author.Tests.{lt-ltb, le-ltb, le-leb, lt-leb, not-true, not-false}
 use Rattle.refusals.specs.Limits.{mostKinds}
 use Rattle.writing.specs.Choose.{choose}
-use Rattle.conversions.specs.Kinds.{allKnown}
+use Rattle.kinds.specs.Kinds.{allKnown}
 use Rattle.parsing.specs.Check.{checkedEnd, checked}
 use Rattle.parsing.specs.Listed.{placed, ended}
 use Rattle.parsing.specs.declared.Checked.the-variants.{Refused}

@@ -1,7 +1,7 @@
 -- `printing::checked_of` meets its contract. Assumes nothing.
 use mathlib.Core.Path.{sym, ap}
 use Rattle.parsing.specs.declared.Ended.{Ended}
-use Rattle.passes.specs.Passes.{checkedOf}
+use Rattle.printing.specs.Passes.{checkedOf}
 use borrow.Author.Needs.{needs}
 use Rattle.printing.proofs.checked_of.Statement.{statement}
 use Rattle.printing.proofs.checked_of.Tie as tie

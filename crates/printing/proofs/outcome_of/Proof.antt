@@ -1,7 +1,7 @@
 -- `printing::outcome_of` meets its contract. Assumes nothing.
 use mathlib.Core.Path.{sym, ap, _∙_}
 use Rattle.parsing.specs.declared.Ended.{Ended}
-use Rattle.tallies.specs.Tallies.{outcomeOf}
+use Rattle.printing.specs.Tallies.{outcomeOf}
 use borrow.Author.Needs.{needs}
 use Rattle.printing.proofs.outcome_of.Statement.{statement}
 use Rattle.printing.proofs.outcome_of.Tie as tie

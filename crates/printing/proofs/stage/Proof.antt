@@ -11,7 +11,7 @@ use Rattle.parsing.specs.Listed.{ended}
 use Rattle.rows.specs.Row.{countOf, kindsOf, isRow}
 use Rattle.rows.proofs.Rows.{row-shape, row-read, row-broken}
 use Rattle.outcomes.specs.Printed.{measuredEnd, measured}
-use Rattle.passes.specs.Passes.{Passed, walkTexts}
+use Rattle.printing.specs.Passes.{Passed, walkTexts}
 use Rattle.printing.specs.Stages.{stagedTexts}
 use Rattle.outcomes.specs.declared.Outcome.the-variants.{Refused}
 use Rattle.printing.proofs.Outcomes.{walk-measured}

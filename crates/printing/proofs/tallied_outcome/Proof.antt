@@ -1,8 +1,8 @@
 -- `printing::tallied_outcome` meets its contract. Assumes nothing.
 use mathlib.Core.Path.{sym, ap}
 use Rattle.parsing.specs.declared.Ended.the-variants.{Finished}
-use Rattle.tallies.specs.Tallies.{outcomeOf}
-use Rattle.tallies.specs.declared.Tally.{Tally}
+use Rattle.printing.specs.Tallies.{outcomeOf}
+use Rattle.printing.specs.declared.tallies.Tally.{Tally}
 use borrow.Author.Needs.{needs}
 use Rattle.printing.proofs.tallied_outcome.Statement.{statement}
 use Rattle.printing.proofs.tallied_outcome.Tie as tie

@@ -6,7 +6,7 @@ use native.Mathlib.Nat.{sub-zero}
 use native.Mathlib.Omega.{arith}
 use borrow.Author.Tests.{not-true, not-false}
 use Rattle.rows.specs.Row.{entriesFrom}
-use Rattle.rows.proofs.Entries.{entry-read, entries-next, entries-none}
+use Rattle.rows.proofs.EntryList.{entry-read, entries-next, entries-none}
 use borrow.Author.Needs.{needs}
 use Rattle.rows.proofs.are_entries.Statement.{statement}
 use Rattle.rows.proofs.are_entries.Tie as tie

@@ -4,7 +4,7 @@ use lib.ListN.{getD}
 use borrow.Author.Needs.{needs}
 use borrow.Author.Tests.{eq-eqb, ne-eqb}
 use Rattle.writing.proofs.Bytes.{byte-at, no-byte}
-use Rattle.letters.specs.Letters.{capitalOf}
+use Rattle.kinds.specs.Letters.{capitalOf}
 use Rattle.specifiers.specs.Specifier.{oneLetter, timeLetterAt, letterAt}
 use Rattle.specifiers.proofs.take_letter.Statement.{statement}
 use Rattle.specifiers.proofs.take_letter.Tie as tie

@@ -1,9 +1,0 @@
--- `conversions::validate` meets its contract. Assumes nothing.
-use borrow.Author.Needs.{needs}
-use Rattle.conversions.specs.Kinds.{fitsKind}
-use Rattle.conversions.proofs.validate.Statement.{statement}
-use Rattle.conversions.proofs.validate.Tie as tie
-
-pub validate-spec : {M : Type 1} → statement M
-unfolding fitsKind
-validate-spec = tie.close (tie.spec (λ c κs. search needs) (λ c. c .fits2 .ensures))

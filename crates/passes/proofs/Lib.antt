@@ -1,2 +1,0 @@
-mod Reached
-mod Laying

@@ -1,2 +1,0 @@
-mod Runs
-mod Blocks

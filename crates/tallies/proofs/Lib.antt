@@ -1,5 +1,0 @@
-pub mod Tallies
-mod Behind
-pub mod Fitting
-pub mod Shown
-pub mod Next
