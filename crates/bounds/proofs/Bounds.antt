@@ -9,6 +9,7 @@ use lib.Dec.{ltb}
 use lib.ListN.{length, getD, take, drop, length-take, length-drop}
 use Rattle.refusals.specs.Limits.{mostFormat, mostPieces}
 use Rattle.writing.proofs.Choose.{by-test}
+use Rattle.kinds.specs.Kinds.{kindIn}
 use Rattle.specifiers.specs.Specifier.{beginsWith, specifierAt}
 use Rattle.specifiers.specs.declared.Specifier.{Specifier}
 use Rattle.specifiers.specs.declared.Specifier.the-variants as S
@@ -20,7 +21,8 @@ use Rattle.parsing.specs.Listed.{Placed, andRest, placedFrom, placed}
 use Rattle.parsing.specs.declared.Cursor.{Cursor}
 use Rattle.parsing.specs.declared.Step.{Step}
 use Rattle.parsing.specs.declared.Step.the-variants.{Found, Refused}
-use Rattle.rows.specs.Row.{countOf, kindsOf, textArea, kindByteOf, valueOf, namedText, isRow}
+use Rattle.rows.specs.Row.{countOf, kindsOf, textArea, entryAt, namedText, isRow}
+use Rattle.rows.specs.declared.entries.Entry.{Entry}
 use Rattle.rows.proofs.Rows.{AllBytes, value-below, row-shape}
 use Rattle.elements.specs.PieceTexts.{shownPiece, pieceText}
 use Rattle.outcomes.specs.Printed.{textsOf, texts}
@@ -35,10 +37,10 @@ module _ (s row : List ℕ) (few : length s ≤ mostFormat) (kept : isRow row �
   fixed-short : (n at : ℕ) → Short (take n (drop at s))
   fixed-short n at = omega (arith, part-length n at s)
 
-  named-body : (a : ℕ) → Body (namedText row a)
+  named-body : (x : Entry) → Body (namedText row x)
   unfolding namedText
-  named-body a =
-      let v = valueOf row a in
+  named-body x =
+      let v = x .value in
       omega (arith, part-length (v / 2 ^ 32) (v % 2 ^ 32) (textArea row), length-drop (6 + 9 * countOf row) row, row-shape row kept)
 
   abbrev StepShort : Step → Type 0
@@ -46,15 +48,15 @@ module _ (s row : List ℕ) (few : length s ≤ mostFormat) (kept : isRow row �
   StepShort (Refused number) = Unit {0}
 
   specifier-short : (a count : ℕ) (t : Specifier) → SpecifierLimited t → StepShort (afterSpecifier a count t)
-  unfolding shownPiece
+  unfolding shownPiece entryAt
   specifier-short a count (S.Read e at) h =
-      element-short e h (valueOf row (e .argument)) (value-below row (e .argument) bytes) (kindByteOf row (e .argument))
-      (namedText row (e .argument)) (named-body (e .argument))
+      let x = entryAt row (e .argument) in
+      element-short e h x (value-below row (e .argument) bytes) (namedText row x) (named-body x)
   specifier-short a count (S.Refused number) h = tt
 
   index-short : (ks : List ℕ) (x : Index) → StepShort (afterIndex s ks x)
   index-short ks (I.Named a next count) =
-      specifier-short a count (specifierAt s next a (getD ks (a - 1) 0)) (specifier-limited s a (getD ks (a - 1) 0) next)
+      specifier-short a count (specifierAt s next a (kindIn (getD ks (a - 1) 0))) (specifier-limited s a (kindIn (getD ks (a - 1) 0)) next)
   index-short ks (I.Refused number) = tt
 
   step-short : (ks : List ℕ) (c : Cursor) → StepShort (pieceAt s ks c)

@@ -15,7 +15,8 @@ use Rattle.specifiers.specs.declared.params.Number.the-variants as N
 use Rattle.specifiers.specs.declared.params.Taken.{Taken}
 use Rattle.specifiers.specs.declared.params.Taken.the-variants.{Param, TooLarge}
 use Rattle.specifiers.proofs.Numbers.{NumberIn, number-in}
-use Rattle.kinds.specs.Kinds.{fitsKind}
+use Rattle.kinds.specs.Kinds.{fits}
+use Rattle.kinds.specs.declared.Kind.{Kind}
 use Rattle.specifiers.specs.Flags.{flagsAt}
 use Rattle.specifiers.specs.declared.flags.Flags.{Flags}
 use Rattle.specifiers.specs.declared.flags.FlagsTaken.{FlagsTaken}
@@ -91,9 +92,9 @@ module _ (s : List ℕ) where
   of-flags (F.Read f at) = of-width f (paramAt _ s at) (param-limited _ at)
   of-flags (F.Refused number) = tt
 
-  module _ (a k : ℕ) where
+  module _ (a : ℕ) (k : Kind) where
     of-letter : (x : Parts) (t : LetterTaken) → PartsLimited (P.Read x 0) → SpecifierLimited (afterLetter a k x t)
-    of-letter x (L.Read c u at) h = by-test SpecifierLimited (fitsKind c k) _ _ (λ _. h) (λ _. tt)
+    of-letter x (L.Read c u at) h = by-test SpecifierLimited (fits c k) _ _ (λ _. h) (λ _. tt)
     of-letter x (L.Refused number) h = tt
 
     of-parts : (t : PartsTaken) → PartsLimited t → SpecifierLimited (afterParts s a k t)

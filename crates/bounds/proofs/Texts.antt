@@ -15,7 +15,7 @@ use Rattle.numerals.specs.declared.Radix.the-variants as R
 use Rattle.numerals.proofs.Digits.{length-numeral, twenty-places}
 use Rattle.numerals.proofs.Bases.{based-places}
 use Rattle.numerals.proofs.Commas.{length-grouped-decimal}
-use Rattle.numerals.specs.Integers.{intOf, isNegative}
+use Rattle.numerals.specs.Integers.{intOf, integerOf, isNegative}
 use Rattle.specifiers.specs.Params.{widthOf}
 use Rattle.frames.specs.declared.Mark.{Mark}
 use Rattle.frames.specs.declared.Mark.the-variants.{NoMark}
@@ -28,20 +28,21 @@ use Rattle.binary64.specs.declared.FpCategory.the-variants as C
 use Rattle.hexfloats.specs.Texts.{hexFloatText}
 use Rattle.calendar.proofs.Epoch.{magnitude-within}
 use Rattle.kinds.specs.declared.letters.TimeFormat.{TimeFormat}
-use Rattle.kinds.specs.Kinds.{printsAs}
+use Rattle.kinds.specs.Kinds.{formOf}
+use Rattle.kinds.specs.declared.IntegerKind.{IntegerKind}
 use Rattle.kinds.specs.declared.IntegerForm.{IntegerForm}
 use Rattle.kinds.specs.declared.IntegerForm.the-variants.{Numeral, Scalar, Digits}
 use Rattle.kinds.specs.declared.Form.{Form}
 use Rattle.kinds.specs.declared.Form.the-variants as F
 use Rattle.specifiers.specs.declared.Element.{Element}
-use Rattle.rows.specs.Entry.{isNull}
+use Rattle.rows.specs.declared.entries.Entry.{Entry}
 use Rattle.utf8.specs.Scalars.{isScalar, utf8Of}
 use Rattle.utf8.proofs.ScalarValues.{scalar-length}
 use Rattle.fields.specs.Cut.{cutTo, cased}
 use Rattle.fields.proofs.Cuts.{cut-shorter}
 use Rattle.fields.proofs.Cased.{length-cased}
 use Rattle.numbers.specs.Numbers.{fill, paddedNumber, integerMark, commas, hexPrefix, numeralText, floatMark}
-use Rattle.fields.specs.Texts.{side, paddedText, formatString, signedText}
+use Rattle.fields.specs.Texts.{side, paddedText, formatString, withMinus}
 use Rattle.dates.specs.Components.{isEarlyFraction}
 use Rattle.elements.specs.Texts.{Shown, integerText, floatText, timeText, valueText, elementText, textOf}
 use Rattle.bounds.proofs.Elements.{Limited, width-within}
@@ -57,7 +58,7 @@ commas-body : (g : Bool) (n : ℕ) → n < 2 ^ 64 → Body (commas g (decimal n)
 commas-body true n h = omega (arith, length-grouped-decimal n, twenty-places n h)
 commas-body false n h = based-body false R.Decimal n h
 
-signed-body : (negative : Bool) (n : ℕ) → n < 2 ^ 64 → Body (signedText negative n)
+signed-body : (negative : Bool) (n : ℕ) → n < 2 ^ 64 → Body (withMinus negative (decimal n))
 signed-body false n h = based-body false R.Decimal n h
 signed-body true n h = omega (arith, length-numeral false 10 n, twenty-places n h)
 
@@ -84,37 +85,43 @@ module _ (e : Element) (limited : Limited e) where
       (float-body (e .upper) v (e .precision) (limited .1))
 
   module _ (v : ℕ) (below : v < 2 ^ 64) where
-    magnitude-below : natAbs (intOf 64 v) < 2 ^ 64
-    magnitude-below = omega (arith, magnitude-within v below)
+    magnitude-below : (signed : Bool) → natAbs (integerOf signed v) < 2 ^ 64
+    magnitude-below true = omega (arith, magnitude-within v below)
+    magnitude-below false = below
 
-    numeral-short : (r : Radix) (w : ℕ) → Short (numeralText e r w v)
-    numeral-short R.Decimal w =
-        number-short (integerMark (e .flags) (isNegative (intOf 64 v))) NoPrefix _ (commas-body (e .flags .grouping) _ magnitude-below)
-    numeral-short R.Octal w = number-short NoMark _ _ (based-body false R.Octal (v % 2 ^ w) (omega (arith, mod-le v (2 ^ w))))
-    numeral-short R.Hexadecimal w = number-short NoMark _ _ (based-body (e .upper) R.Hexadecimal (v % 2 ^ w) (omega (arith, mod-le v (2 ^ w))))
+    numeral-short : (r : Radix) (k : IntegerKind) → Short (numeralText e r k v)
+    numeral-short R.Decimal k =
+        number-short (integerMark (e .flags) (isNegative (integerOf (k .signed) v))) NoPrefix _
+        (commas-body (e .flags .grouping) _ (magnitude-below (k .signed)))
+    numeral-short R.Octal k = number-short NoMark _ _ (based-body false R.Octal (v % 2 ^ k .width) (omega (arith, mod-le v (2 ^ k .width))))
+    numeral-short R.Hexadecimal k =
+        number-short NoMark _ _ (based-body (e .upper) R.Hexadecimal (v % 2 ^ k .width) (omega (arith, mod-le v (2 ^ k .width))))
 
-    integer-short : (f : IntegerForm) (w : ℕ) → ShownShort (integerText e f w v)
-    integer-short (Numeral r) w = numeral-short r w
-    integer-short Scalar w =
-        let n = natAbs (intOf 64 v) in
-        by-test ShownShort (isNegative (intOf 64 v)) _ _ (λ _. omega arith)
-        (λ _. by-test ShownShort (isScalar n) _ _ (λ _. field-short NoMark (utf8Of n) (omega (arith, scalar-length n))) (λ _. omega arith))
-    integer-short Digits w = string-short _ (signed-body (isNegative (intOf 64 v)) _ magnitude-below)
+    integer-short : (f : IntegerForm) (k : IntegerKind) → ShownShort (integerText e f k v)
+    integer-short (Numeral r) k = numeral-short r k
+    integer-short Scalar k =
+        let z = integerOf (k .signed) v in
+        by-test ShownShort (isNegative z) _ _ (λ _. omega arith)
+        (λ _. by-test ShownShort (isScalar (natAbs z)) _ _ (λ _. field-short NoMark (utf8Of (natAbs z)) (omega (arith, scalar-length (natAbs z))))
+        (λ _. omega arith))
+    integer-short Digits k = string-short _ (signed-body (isNegative (integerOf (k .signed) v)) _ (magnitude-below (k .signed)))
 
     time-short : (u : Bool) (c : TimeFormat) → ShownShort (timeText u c (intOf 64 v))
     time-short u c =
         by-test ShownShort (isEarlyFraction (intOf 64 v)) _ _ (λ _. omega arith)
         (λ _. rw length-cased (omega (arith, component-length v below c)))
 
-    value-short : (f : Form) (null : Bool) (part : List ℕ) → Body part → ShownShort (valueText e f null part v)
-    value-short (F.Integer f w) null part h = by-test ShownShort null _ _ (λ _. string-short (ascii "null") (omega arith)) (λ _. integer-short f w)
-    value-short F.HexFloat null part h = float-short (categoryOf v) v
-    value-short F.Boolean null part h =
-        string-short _ (by-test Body (eqb v 0) _ _ (λ _. omega arith) (λ _. omega arith))
-    value-short F.Text null part h = string-short part h
-    value-short (F.Time c) null part h = time-short (e .upper) c
-    value-short F.NotPrinted null part h = omega arith
+  module _ (x : Entry) (below : x .value < 2 ^ 64) where
+    value-short : (f : Form) (part : List ℕ) → Body part → ShownShort (valueText e f x part)
+    value-short (F.Integer f k) part h =
+        by-test ShownShort (x .null) _ _ (λ _. string-short (ascii "null") (omega arith)) (λ _. integer-short (x .value) below f k)
+    value-short F.HexFloat part h = float-short (categoryOf (x .value)) (x .value)
+    value-short F.Boolean part h = string-short _ (by-test Body (eqb (x .value) 0) _ _ (λ _. omega arith) (λ _. omega arith))
+    value-short F.Text part h = field-short NoMark part h
+    value-short (F.Time c) part h = time-short (x .value) below (e .upper) c
+    value-short F.NotPrinted part h = omega arith
 
-    pub element-short : (k : ℕ) (part : List ℕ) → Body part → Short (textOf (elementText e k part v))
+    pub element-short : (named : List ℕ) → Body named → Short (textOf (elementText e x named))
     unfolding elementText
-    element-short k part h = value-short (printsAs (e .conversion) k) (isNull k) part h
+    element-short named h =
+        value-short (formOf (e .conversion) (x .kind)) (cutTo (e .precision) named) (omega (arith, cut-shorter (e .precision) named))

@@ -14,7 +14,7 @@ use Rattle.binary64.specs.Rounding.{nearestTo, keptDigits}
 use Rattle.hexfloats.specs.Texts.{exponentText, hexFloatText}
 use Rattle.utf8.specs.Utf8.{leadOf, wellFormedFrom, wellFormed}
 use Rattle.kinds.specs.Letters.{timeOf, smallOf, capitalOf}
-use Rattle.kinds.specs.Kinds.{kindOf, isIntegerKind, integerForm, fitsKind, printsAs}
+use Rattle.kinds.specs.Kinds.{kindOf}
 use Rattle.specifiers.specs.Flags.{leadingFlags, firstClash, flagsAt}
 use Rattle.specifiers.specs.Specifier.{precisionAt, letterAt, partsAt, specifierAt}
 use Rattle.parsing.specs.Indexes.{indexAt}
@@ -23,6 +23,7 @@ use Rattle.parsing.specs.Pieces.{argumentAt, elementAt, pieceAt}
 use Rattle.parsing.specs.Listed.{placedFrom, endFrom, placed, ended}
 use Rattle.utf8.specs.Scalars.{utf8Of}
 use Rattle.fields.specs.Cut.{capital, backTo, cutLength, cutTo, cased}
+use Rattle.rows.specs.Entry.{isEntry}
 use Rattle.rows.specs.Row.{namedText, entryAt, entriesFrom, isRow}
 use Rattle.calendar.specs.Dates.{isLeap, daysOf, yearLength, dayNumber, countOff, yearDay, dateOf}
 use Rattle.calendar.specs.Moments.{epochDay, sinceYear0, weekdayOf, ordinalOf, momentOf}
@@ -37,9 +38,9 @@ pub theorem-cases : T (allHold cases) × T (allHold ours) × T (allHold dates) �
 unfolding mul ofBits toBits digitsIn placesWithin places digits numberFrom numberOf letterOf lettersOf numeral grouped intOf
     leadingDigits numberTaken numberAt paramAt spaces headText tailText framed spare frameOf padded
     negative exponentField fractionField categoryOf scaledBits shortest rounded hexFloatOf exponentText hexFloatText nearestTo keptDigits
-    leadOf wellFormedFrom wellFormed smallOf capitalOf kindOf isIntegerKind integerForm fitsKind printsAs
+    leadOf wellFormedFrom wellFormed smallOf capitalOf kindOf
     has leadingFlags firstClash flagsAt precisionAt letterAt partsAt specifierAt textLength indexAt argumentAt elementAt pieceAt placedFrom endFrom placed ended
-    capital backTo cutLength cutTo cased utf8Of littleEndian wordAt namedText entryAt entriesFrom isRow
+    capital backTo cutLength cutTo cased utf8Of littleEndian wordAt isEntry namedText entryAt entriesFrom isRow
     timeOf isLeap daysOf yearLength dayNumber countOff yearDay dateOf epochDay sinceYear0 weekdayOf ordinalOf momentOf
     nameOf numberText clock12 half signText nameText symbolText symbolsText componentText isEarlyFraction
     elementText shownPiece textsOf texts joined printedText firstStop measuredEnd measured

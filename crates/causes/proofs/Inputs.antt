@@ -2,7 +2,7 @@
 use mathlib.Core.Path.{_≡_, refl, sym, ap, subst, _∙_}
 use mathlib.Core.Bool.{Bool, true, false, _&&_, _||_}
 use mathlib.Core.List.{List, [], _∷_}
-use Prim.Native.Nat.{ℕ, zero, suc, _-_, _%_, _<_}
+use Prim.Native.Nat.{ℕ, zero, suc, _-_, _<_}
 use native.Mathlib.Decide.{decLt}
 use native.Mathlib.Omega.{arith}
 use lib.Dec.{eqb, leb}
@@ -11,7 +11,7 @@ use borrow.Author.Tests.{eqb-true, eq-eqb, le-leb, lt-leb}
 use Rattle.refusals.specs.Limits.{mostKinds}
 use Rattle.writing.specs.Text.{has}
 use Rattle.writing.proofs.Choose.{both}
-use Rattle.kinds.specs.Kinds.{kindOf, isKnown, allKnown}
+use Rattle.kinds.specs.Kinds.{unmarked, kindOf, isKnown, allKnown}
 use Rattle.grammar.specs.Runs.{all}
 use Rattle.grammar.specs.Elements.{kinds}
 use Rattle.grammar.proofs.Letters.{never, all-has, known-kind}
@@ -96,7 +96,7 @@ pub checked-kinds : (ks : List ℕ) → allKnown ks ≡ true → KindsKnown ks
 unfolding all has
 checked-kinds ks e a h i =
     let k = getD ks (a - 1) 0 in
-    all-has (λ k. has kinds (k % 128)) kinds k refl (known-kind k (known-at ks (a - 1) e (omega arith)))
+    all-has (λ k. has kinds (unmarked k)) kinds k refl (known-kind k (known-at ks (a - 1) e (omega arith)))
 
 -- The row's layout, and 14.
 pub row-good : {call : Call} {row : List ℕ} → OfRow call row → ((number : ℕ) → BadInput call number → ⊥) → isRow row ≡ true

@@ -12,7 +12,7 @@ use Rattle.refusals.specs.Limits.{mostFormat, mostKinds, largestEnd}
 use Rattle.writing.specs.Text.{has}
 use Rattle.writing.proofs.Choose.{both}
 use Rattle.utf8.specs.Utf8.{wellFormed}
-use Rattle.kinds.specs.Kinds.{allKnown}
+use Rattle.kinds.specs.Kinds.{unmarked, allKnown}
 use Rattle.parsing.specs.Check.{checkedEnd, checked}
 use Rattle.parsing.specs.Listed.{placed, ended}
 use Rattle.parsing.specs.declared.Checked.the-variants as C
@@ -93,7 +93,7 @@ module _ (s row : List ℕ) (short : length s ≤ mostFormat) (formed : wellForm
       known : (w : Written) → (1 ≤ w .argument) × (w .argument ≤ length (kindsOf row)) → HasKind row w
       known w h =
           let few : w .argument ≤ countOf row = omega (arith, h .1, kinds-length row kept) in
-          ap (λ (k : ℕ). has kinds (k % 128)) (sym (kind-byte row (w .argument) (h .0) few)) ∙ row-kinds row kept (w .argument) (h .0) (h .1)
+          ap (λ (k : ℕ). has kinds (unmarked k)) (sym (kind-byte row (w .argument) (h .0) few)) ∙ row-kinds row kept (w .argument) (h .0) (h .1)
 
   stopped-measured : {n p : ℕ} → StopsReading s (kindsOf row) n p → measured s row ≡ Refused n p
   unfolding measuredEnd

@@ -3,14 +3,13 @@ use mathlib.Core.Path.{_≡_, refl, sym, ap, _∙_}
 use mathlib.Core.Bool.{Bool, true, false}
 use mathlib.Core.List.{List, [], _∷_, _++_}
 use mathlib.Core.Option.{Option, none, some}
-use Prim.Native.Nat.{ℕ, _%_}
+use Prim.Native.Nat.{ℕ}
 use lib.IntN.{ℤ}
 use lib.ListN.{length}
 use Rattle.writing.specs.Text.{ascii, has}
 use Rattle.writing.proofs.Choose.{both}
 use Rattle.numerals.specs.Integers.{intOf}
-use Rattle.kinds.specs.Kinds.{formOf, printsAs}
-use Rattle.kinds.specs.declared.Form.{Form}
+use Rattle.kinds.specs.Kinds.{unmarked, formOf}
 use Rattle.specifiers.specs.declared.Element.{Element}
 use Rattle.parsing.specs.Listed.{Placed}
 use Rattle.parsing.specs.declared.Piece.{Piece}
@@ -22,68 +21,65 @@ use Rattle.grammar.specs.Pieces.{ElementIs, PieceIs, Lists}
 use Rattle.grammar.specs.Pieces as Q
 use Rattle.grammar.proofs.Arguments.{OfElement, Each}
 use Rattle.grammar.proofs.Letters.{never}
-use Rattle.rows.specs.Entry.{isNull}
-use Rattle.rows.specs.Row.{namedText, kindByteOf, valueOf}
+use Rattle.fields.specs.Cut.{cutTo}
+use Rattle.rows.specs.Entry.{integerIn}
+use Rattle.rows.specs.Row.{namedText, kindByteOf, entryAt}
+use Rattle.rows.specs.declared.entries.Entry.{Entry}
 use Rattle.elements.specs.Texts.{elementText, stopOf}
-use Rattle.elements.specs.PieceTexts.{shownPiece, pieceStop}
+use Rattle.elements.specs.PieceTexts.{shownEntry, shownPiece, pieceStop}
 use Rattle.outcomes.specs.Printed.{Stop, stopAt, firstStop}
-use Rattle.causes.specs.Causes.{printsBytes, isScalarValue, isBetweenSeconds, Unprinted, not-printed, no-scalar, no-whole-second}
+use Rattle.causes.specs.Causes.{isPrinted, isScalarValue, isBetweenSeconds, Unprinted, not-printed, no-scalar, no-whole-second}
 use Rattle.causes.specs.Causes.{PartPrinted, AllPrinted, FirstUnprinted, here, earlier}
 use Rattle.causes.proofs.Unprinted.{isCharacter, isDate, Shows, shows, stop, stops-15, stops-16, stops-18, goes-on}
 
 -- An element of a row whose kind is known.
 abbrev pub HasKind : List ℕ → Written → Type 0
-HasKind row w = has kinds (kindByteOf row (w .argument) % 128) ≡ true
+HasKind row w = has kinds (unmarked (kindByteOf row (w .argument))) ≡ true
 
 module _ (s row : List ℕ) (e : Element) (w : Written) (is : ElementIs e w) (known : HasKind row w) where
-  abbrev k : ℕ
-  k = kindByteOf row (w .argument)
+  abbrev x : Entry
+  x = entryAt row (w .argument)
 
-  abbrev v : ℕ
-  v = valueOf row (w .argument)
+  abbrev part : List ℕ
+  part = cutTo (e .precision) (namedText row x)
 
-  abbrev form : Form
-  form = formOf (e .conversion) (k % 128)
+  shown-so : Shows (w .letter) (e .conversion) (unmarked (kindByteOf row (w .argument)))
+  shown-so = shows (w .letter) (e .conversion) (unmarked (kindByteOf row (w .argument))) (is .conversion) known
 
-  shown-so : Shows (w .letter) (e .conversion) (k % 128)
-  shown-so = shows (w .letter) (e .conversion) (e .upper) (length (w .letter)) (k % 128) (is .letter) known
-
-  stop-so : pieceStop s row (AnElement e) ≡ stop e (namedText row (w .argument)) v form (isNull k)
-  unfolding shownPiece elementText printsAs
-  stop-so = ap (λ (a : ℕ). stopOf (elementText e (kindByteOf row a) (namedText row a) (valueOf row a))) (is .argument)
+  stop-so : pieceStop s row (AnElement e) ≡ stop e x part (formOf (e .conversion) (x .kind))
+  unfolding shownPiece elementText
+  stop-so = ap (λ (a : ℕ). stopOf (shownEntry row e (entryAt row a))) (is .argument)
 
   unprinted-stops : (n : ℕ) → Unprinted row w n → pieceStop s row (AnElement e) ≡ some n
-  unprinted-stops n (not-printed h) = stop-so ∙ stops-15 e (namedText row (w .argument)) v form (isNull k) (sym (shown-so .printed) ∙ h)
-  unprinted-stops n (no-scalar p c null z) =
-      stop-so
-      ∙ ap (stop e (namedText row (w .argument)) v form) null
-      ∙ stops-16 e (namedText row (w .argument)) v form (sym (shown-so .character) ∙ simp (c, p)) z
-  unprinted-stops n (no-whole-second p t z) =
-      stop-so ∙ stops-18 e (namedText row (w .argument)) v form (isNull k) (sym (shown-so .date) ∙ simp (t, p)) z
+  unfolding entryAt
+  unprinted-stops n (not-printed h) = stop-so ∙ stops-15 e x part (formOf (e .conversion) (x .kind)) (sym (shown-so .printed) ∙ h)
+  unprinted-stops n (no-scalar p c null z) = stop-so ∙ stops-16 e x part (e .conversion) (sym (shown-so .character) ∙ simp (c, p)) null z
+  unprinted-stops n (no-whole-second p t z) = stop-so ∙ stops-18 e x part (formOf (e .conversion) (x .kind)) (sym (shown-so .date) ∙ simp (t, p)) z
 
   printed-goes : ((n : ℕ) → Unprinted row w n → ⊥) → pieceStop s row (AnElement e) ≡ none
-  printed-goes none-of = stop-so ∙ goes-on e (namedText row (w .argument)) v form (isNull k) (sym (shown-so .printed) ∙ printed) scalar whole
+  unfolding entryAt
+  printed-goes none-of = stop-so ∙ goes-on e x part (e .conversion) (sym (shown-so .printed) ∙ printed) scalar whole
     where
-      printed : printsBytes (w .letter) (k % 128) ≡ true
-      printed = go (printsBytes (w .letter) (k % 128)) refl
+      printed : isPrinted row w ≡ true
+      printed = go (isPrinted row w) refl
         where
-          go : (t : Bool) → printsBytes (w .letter) (k % 128) ≡ t → t ≡ true
+          go : (t : Bool) → isPrinted row w ≡ t → t ≡ true
           go true q = refl
           go false q = absurd (none-of 15 (not-printed q))
 
-      scalar : isCharacter form ≡ true → isNull k ≡ false → isScalarValue (intOf 64 v) ≡ true
+      scalar : isCharacter (formOf (e .conversion) (x .kind)) ≡ true → x .null ≡ false → isScalarValue (integerIn x) ≡ true
       scalar c null =
-          go (isScalarValue (intOf 64 v)) refl (both (begins (has (ascii "cC")) (w .letter)) (printsBytes (w .letter) (k % 128)) (shown-so .character ∙ c) .0)
+          go (isScalarValue (integerIn x)) refl (both (begins (has (ascii "cC")) (w .letter)) (isPrinted row w) (shown-so .character ∙ c) .0)
         where
-          go : (t : Bool) → isScalarValue (intOf 64 v) ≡ t → begins (has (ascii "cC")) (w .letter) ≡ true → t ≡ true
+          go : (t : Bool) → isScalarValue (integerIn x) ≡ t → begins (has (ascii "cC")) (w .letter) ≡ true → t ≡ true
           go true q b = refl
           go false q b = absurd (none-of 16 (no-scalar printed b null q))
 
-      whole : isDate form ≡ true → isBetweenSeconds (intOf 64 v) ≡ false
+      whole : isDate (formOf (e .conversion) (x .kind)) ≡ true → isBetweenSeconds (intOf 64 (x .value)) ≡ false
       whole d =
-          go (isBetweenSeconds (intOf 64 v)) refl (both (begins (has (ascii "tT")) (w .letter)) (printsBytes (w .letter) (k % 128)) (shown-so .date ∙ d) .0)
+          go (isBetweenSeconds (intOf 64 (x .value))) refl (both (begins (has (ascii "tT")) (w .letter)) (isPrinted row w) (shown-so .date ∙ d) .0)
         where
-          go : (t : Bool) → isBetweenSeconds (intOf 64 v) ≡ t → begins (has (ascii "tT")) (w .letter) ≡ true → t ≡ false
+          go : (t : Bool) → isBetweenSeconds (intOf 64 (x .value)) ≡ t → begins (has (ascii "tT")) (w .letter) ≡ true → t ≡ false
           go false q b = refl
           go true q b = absurd (none-of 18 (no-whole-second printed b q))
 
@@ -95,14 +91,17 @@ pub data Told (P : Type 0) (Q : ℕ → ℕ → Type 0) : Type 0 where
 module _ (row : List ℕ) where
   -- A letter that prints is none of %c's and none of dates', or it is of one of them, and then its value decides.
   told-element : (w : Written) → Told (PartPrinted row (element w)) (λ n _. Unprinted row w n)
-  told-element w = by-letter (printsBytes (w .letter) (kindByteOf row (w .argument) % 128)) refl
+  told-element w = by-letter (isPrinted row w) refl
     where
       z : ℤ
-      z = intOf 64 (valueOf row (w .argument))
+      z = integerIn (entryAt row (w .argument))
 
-      by-date : printsBytes (w .letter) (kindByteOf row (w .argument) % 128) ≡ true
-          → (begins (has (ascii "cC")) (w .letter) ≡ true → isNull (kindByteOf row (w .argument)) ≡ false → isScalarValue z ≡ false → ⊥) → (d b : Bool)
-          → begins (has (ascii "tT")) (w .letter) ≡ d → isBetweenSeconds z ≡ b → Told (PartPrinted row (element w)) (λ n _. Unprinted row w n)
+      since : ℤ
+      since = intOf 64 (entryAt row (w .argument) .value)
+
+      by-date : isPrinted row w ≡ true
+          → (begins (has (ascii "cC")) (w .letter) ≡ true → entryAt row (w .argument) .null ≡ false → isScalarValue z ≡ false → ⊥) → (d b : Bool)
+          → begins (has (ascii "tT")) (w .letter) ≡ d → isBetweenSeconds since ≡ b → Told (PartPrinted row (element w)) (λ n _. Unprinted row w n)
       by-date p scalar true true d b = found {p = 0} (no-whole-second p d b)
       by-date p scalar true false d b = fine (λ n u. against n u)
         where
@@ -117,15 +116,15 @@ module _ (row : List ℕ) where
           against n (no-scalar x y m l) = scalar y m l
           against n (no-whole-second x y l) = never (sym d ∙ y)
 
-      by-character : printsBytes (w .letter) (kindByteOf row (w .argument) % 128) ≡ true → (c m s : Bool)
-          → begins (has (ascii "cC")) (w .letter) ≡ c → isNull (kindByteOf row (w .argument)) ≡ m → isScalarValue z ≡ s
+      by-character : isPrinted row w ≡ true → (c m s : Bool)
+          → begins (has (ascii "cC")) (w .letter) ≡ c → entryAt row (w .argument) .null ≡ m → isScalarValue z ≡ s
           → Told (PartPrinted row (element w)) (λ n _. Unprinted row w n)
       by-character p true false false c m s = found {p = 0} (no-scalar p c m s)
       by-character p false n t c m s = by-date p (λ y k l. never (sym c ∙ y)) _ _ refl refl
       by-character p true true t c m s = by-date p (λ y k l. never (sym k ∙ m)) _ _ refl refl
       by-character p true false true c m s = by-date p (λ y k l. never (sym l ∙ s)) _ _ refl refl
 
-      by-letter : (p : Bool) → printsBytes (w .letter) (kindByteOf row (w .argument) % 128) ≡ p → Told (PartPrinted row (element w)) (λ n _. Unprinted row w n)
+      by-letter : (p : Bool) → isPrinted row w ≡ p → Told (PartPrinted row (element w)) (λ n _. Unprinted row w n)
       by-letter false p = found {p = 0} (not-printed p)
       by-letter true p = by-character p _ _ _ refl refl refl
 

@@ -1,50 +1,50 @@
 -- Which elements of a row are not printed, by their letters, and which is the first. Assumes nothing.
-use mathlib.Core.Path.{_≡_, refl, sym, ap, subst, _∙_}
+use mathlib.Core.Path.{_≡_, refl, sym, ap, _∙_}
 use mathlib.Core.Bool.{Bool, true, false, _&&_, _||_}
 use mathlib.Core.List.{List, [], _∷_}
 use mathlib.Core.Option.{Option, none, some}
 use Prim.Native.Nat.{ℕ, suc, _%_}
-use Prim.Native.Char.{code}
 use native.Mathlib.Decide.{decLt, ℕ-discrete}
 use native.Mathlib.Omega.{arith}
-use lib.Dec.{eqb, leb, ltb}
-use lib.IntN.{ℤ, pos, negsuc, natAbs}
-use borrow.Author.Tests.{eqb-true, eq-eqb, ne-eqb, le-leb, lt-leb, lt-ltb, le-ltb}
+use lib.Dec.{leb, ltb}
+use lib.IntN.{ℤ, pos, negsuc}
+use borrow.Author.Tests.{eq-eqb, ne-eqb, le-leb, lt-leb, lt-ltb, le-ltb}
 use Rattle.writing.specs.Choose.{choose}
 use Rattle.writing.specs.Text.{ascii, has}
 use Rattle.writing.proofs.Choose.{both}
-use Rattle.numerals.specs.Integers.{intOf, isNegative}
-use Rattle.kinds.specs.Letters.{timeOf, smallOf, capitalOf}
-use Rattle.kinds.specs.Kinds.{integerForm, onlyIf, formOf}
+use Rattle.numerals.specs.Integers.{intOf, integerOf}
+use Rattle.numerals.specs.declared.Radix.the-variants.{Decimal, Octal, Hexadecimal}
+use Rattle.kinds.specs.Kinds.{kindOf, formOf}
 use Rattle.kinds.specs.declared.letters.ConversionType.{ConversionType}
 use Rattle.kinds.specs.declared.letters.ConversionType.the-variants as C
+use Rattle.kinds.specs.declared.letters.TimeFormat.{TimeFormat}
+use Rattle.kinds.specs.declared.IntegerKind.{IntegerKind}
+use Rattle.kinds.specs.declared.Kind.{Kind}
+use Rattle.kinds.specs.declared.Kind.the-variants as K
 use Rattle.kinds.specs.declared.IntegerForm.the-variants.{Numeral, Scalar, Digits}
 use Rattle.kinds.specs.declared.Form.{Form}
 use Rattle.kinds.specs.declared.Form.the-variants as F
-use Rattle.kinds.specs.declared.letters.TimeFormat.{TimeFormat}
-use Rattle.kinds.specs.declared.letters.TimeLetter.{TimeLetter}
-use Rattle.kinds.specs.declared.letters.TimeLetter.the-variants.{Component, NoComponent}
-use Rattle.specifiers.specs.Specifier.{timeLetter, secondLetter, letterFrom}
+use Rattle.kinds.proofs.Tables.{OfInteger, form-of}
 use Rattle.specifiers.specs.declared.Element.{Element}
-use Rattle.specifiers.specs.declared.LetterTaken.{LetterTaken}
-use Rattle.specifiers.specs.declared.LetterTaken.the-variants as L
 use Rattle.grammar.specs.Runs.{begins, all}
-use Rattle.grammar.specs.Elements.{letters, kinds, inTable}
-use Rattle.grammar.proofs.Total.{has-none}
-use Rattle.grammar.proofs.Letters.{never, all-has, same, same-is, one, not-time, either-time, eight, second, no-letter-is}
+use Rattle.grammar.specs.Elements.{kinds, inTable}
+use Rattle.grammar.specs.Pieces.{lettersOf}
+use Rattle.grammar.proofs.Letters.{never, all-has, same, same-is}
 use Rattle.utf8.specs.Scalars.{isScalar}
 use Rattle.dates.specs.Components.{isEarlyFraction}
-use Rattle.elements.specs.Texts.{Text, charText, timeText, valueText, stopOf}
+use Rattle.rows.specs.Entry.{integerKindOf, integerIn}
+use Rattle.rows.specs.declared.entries.Entry.{Entry}
+use Rattle.elements.specs.Texts.{charText, timeText, valueText, stopOf}
 use Rattle.causes.specs.Causes.{printedFor, printsBytes, isScalarValue, isBetweenSeconds}
 
 -- What is printed, and what is a character, by the form.
-abbrev pub isPrinted : Form → Bool
-isPrinted (F.Integer f w) = true
-isPrinted F.HexFloat = true
-isPrinted F.Boolean = true
-isPrinted F.Text = true
-isPrinted (F.Time x) = true
-isPrinted F.NotPrinted = false
+abbrev pub hasForm : Form → Bool
+hasForm (F.Integer f w) = true
+hasForm F.HexFloat = true
+hasForm F.Boolean = true
+hasForm F.Text = true
+hasForm (F.Time x) = true
+hasForm F.NotPrinted = false
 
 abbrev pub isCharacter : Form → Bool
 isCharacter (F.Integer (Numeral r) w) = false
@@ -64,101 +64,41 @@ isDate F.Text = false
 isDate (F.Time x) = true
 isDate F.NotPrinted = false
 
--- The form of a letter that was read.
-abbrev formRead : LetterTaken → ℕ → Form
-formRead (L.Read c u at) k = formOf c k
-formRead (L.Refused n) k = F.NotPrinted
+-- What the table says of a letter and a kind byte is what the form of its conversion says.
+abbrev agrees : ConversionType → ℕ → ℕ → Bool
+agrees c b k =
+    same (inTable printedFor b k) (hasForm (formOf c (kindOf k)))
+    && (same (has (ascii "cC") b && inTable printedFor b k) (isCharacter (formOf c (kindOf k)))
+    && same (has (ascii "tT") b && inTable printedFor b k) (isDate (formOf c (kindOf k))))
 
-abbrev agrees : ℕ → ℕ → Bool
-agrees b k =
-    same (inTable printedFor b k) (isPrinted (formRead (one b) k))
-    && (same (has (ascii "cC") b && inTable printedFor b k) (isCharacter (formRead (one b) k))
-    && same (has (ascii "tT") b && inTable printedFor b k) (isDate (formRead (one b) k)))
+all-agree : (c : ConversionType) → all (λ b. all (agrees c b) kinds) (lettersOf c) ≡ true
+unfolding all has kindOf
+all-agree C.Boolean = refl
+all-agree C.HexHash = refl
+all-agree C.String = refl
+all-agree C.Char = refl
+all-agree (C.Integer Decimal) = refl
+all-agree (C.Integer Octal) = refl
+all-agree (C.Integer Hexadecimal) = refl
+all-agree C.DecimalFloat = refl
+all-agree C.HexFloat = refl
+all-agree (C.Time t) = refl
 
-all-agree : all (λ b. all (agrees b) kinds) letters ≡ true
-unfolding all has one smallOf capitalOf integerForm
-all-agree = refl
-
--- A letter that was read, for a kind: it is printed as the table says.
+-- An element's letter, for a kind: it is printed as the table says.
 pub record Shows (x : List ℕ) (c : ConversionType) (k : ℕ) : Type 0 where
-  pub printed : printsBytes x k ≡ isPrinted (formOf c k)
-  pub character : (begins (has (ascii "cC")) x && printsBytes x k) ≡ isCharacter (formOf c k)
-  pub date : (begins (has (ascii "tT")) x && printsBytes x k) ≡ isDate (formOf c k)
+  pub printed : printsBytes x k ≡ hasForm (formOf c (kindOf k))
+  pub character : (begins (has (ascii "cC")) x && printsBytes x k) ≡ isCharacter (formOf c (kindOf k))
+  pub date : (begins (has (ascii "tT")) x && printsBytes x k) ≡ isDate (formOf c (kindOf k))
 
-plain-shows : (b : ℕ) (more : List ℕ) (c : ConversionType) (u : Bool) (n k : ℕ) → has letters b ≡ true → letterFrom (b ∷ more) 0 ≡ L.Read c u n
-    → has kinds k ≡ true → Shows (b ∷ more) c k
-unfolding one
-plain-shows b more c u n k h e i =
-    let t = not-time b h in
-    let r : one b ≡ L.Read c u n = sym (simp (t .0, t .1)) ∙ e in
-    let a = both (same (inTable printedFor b k) (isPrinted (formRead (one b) k)))
-    (same (has (ascii "cC") b && inTable printedFor b k) (isCharacter (formRead (one b) k))
-    && same (has (ascii "tT") b && inTable printedFor b k) (isDate (formRead (one b) k)))
-    (all-has (agrees b) kinds k (all-has (λ b. all (agrees b) kinds) letters b all-agree h) i) in
-    let d = both (same (has (ascii "cC") b && inTable printedFor b k) (isCharacter (formRead (one b) k)))
-    (same (has (ascii "tT") b && inTable printedFor b k) (isDate (formRead (one b) k))) (a .1) in
-    record {
-      printed = same-is (inTable printedFor b k) _ (a .0) ∙ ap (λ (x : LetterTaken). isPrinted (formRead x k)) r;
-      character = same-is (has (ascii "cC") b && inTable printedFor b k) _ (d .0) ∙ ap (λ (x : LetterTaken). isCharacter (formRead x k)) r;
-      date = same-is (has (ascii "tT") b && inTable printedFor b k) _ (d .1) ∙ ap (λ (x : LetterTaken). isDate (formRead x k)) r;
-    }
-
--- t and T are printed for kind 8 alone
-time-eight : (t k : ℕ) → has (ascii "tT") t ≡ true → (inTable printedFor t k ≡ eqb k 8) × (has (ascii "cC") t ≡ false)
-unfolding has
-time-eight t k h = go (eqb t (code "t")) (eqb t (code "T")) refl refl (either-time t h)
-  where
-    Eight : ℕ → Type 0
-    Eight x = (inTable printedFor x k ≡ eqb k 8) × (has (ascii "cC") x ≡ false)
-
-    go : (a b : Bool) → eqb t (code "t") ≡ a → eqb t (code "T") ≡ b → (a || b) ≡ true → Eight t
-    go true b p q e = subst Eight (sym (eqb-true t (code "t") p)) (eight k, refl)
-    go false true p q e = subst Eight (sym (eqb-true t (code "T") q)) (eight k, refl)
-    go false false p q e = absurd (never e)
-
-pub record Dated (c : ConversionType) (k : ℕ) : Type 0 where
-  pub component : TimeFormat
-  pub form : formOf c k ≡ onlyIf (eqb k 8) (F.Time component)
-
-time-conversion : (v : Bool) (rest : List ℕ) (c : ConversionType) (u : Bool) (n k : ℕ) → secondLetter v rest 0 ≡ L.Read c u n → Dated c k
-time-conversion v [] c u n k e = absurd (let z : _≡_ {A = ℕ} 0 1 = cc in omega arith)
-time-conversion v (b ∷ rest) c u n k e = go (timeOf b) e
-  where
-    go : (x : TimeLetter) → timeLetter v x 0 ≡ L.Read c u n → Dated c k
-    go (Component y) e =
-        let q : C.Time y ≡ c = cc in record { component = y; form = sym (ap (λ (d : ConversionType). formOf d k) q) }
-    go NoComponent e = absurd (let z : _≡_ {A = ℕ} 0 1 = cc in omega arith)
-
-date-printed : (t : Bool) (y : TimeFormat) → isPrinted (onlyIf t (F.Time y)) ≡ t
-date-printed true y = refl
-date-printed false y = refl
-
-date-dated : (t : Bool) (y : TimeFormat) → isDate (onlyIf t (F.Time y)) ≡ t
-date-dated true y = refl
-date-dated false y = refl
-
-no-character : (t : Bool) (y : TimeFormat) → isCharacter (onlyIf t (F.Time y)) ≡ false
-no-character true y = refl
-no-character false y = refl
-
-pub shows : (x : List ℕ) (c : ConversionType) (u : Bool) (n k : ℕ) → letterFrom x 0 ≡ L.Read c u n → has kinds k ≡ true → Shows x c k
-shows [] c u n k e i = absurd (let z : _≡_ {A = ℕ} 0 1 = cc in omega arith)
-shows (b ∷ more) c u n k e i = go (has letters b) (has (ascii "tT") b) refl refl
-  where
-    go : (p q : Bool) → has letters b ≡ p → has (ascii "tT") b ≡ q → Shows (b ∷ more) c k
-    go true q h t = plain-shows b more c u n k h e i
-    go false true h t =
-        let r = time-eight b k t in
-        let f = time-conversion (eqb b (code "T")) more c u n k (sym (second b t more 0) ∙ e) in
-        let y = f .component in
-        record {
-          printed = r .0 ∙ sym (ap isPrinted (f .form) ∙ date-printed (eqb k 8) y);
-          character = simp (r .0, r .1) (sym (ap isCharacter (f .form) ∙ no-character (eqb k 8) y));
-          date = ap (λ (x : Bool). x && inTable printedFor b k) t ∙ r .0 ∙ sym (ap isDate (f .form) ∙ date-dated (eqb k 8) y);
-        }
-    go false false h t =
-        let q = sym (no-letter-is (b ∷ more) 0 (has-none letters (ascii "tT") b h t)) ∙ e in
-        absurd (let z : _≡_ {A = ℕ} 0 1 = cc in omega arith)
+pub shows : (x : List ℕ) (c : ConversionType) (k : ℕ) → begins (has (lettersOf c)) x ≡ true → has kinds k ≡ true → Shows x c k
+shows [] c k h i = absurd (never h)
+shows (b ∷ more) c k h i =
+    let f = formOf c (kindOf k) in
+    let a = both (same (inTable printedFor b k) (hasForm f))
+    (same (has (ascii "cC") b && inTable printedFor b k) (isCharacter f) && same (has (ascii "tT") b && inTable printedFor b k) (isDate f))
+    (all-has (agrees c b) kinds k (all-has (λ b. all (agrees c b) kinds) (lettersOf c) b (all-agree c) h) i) in
+    let d = both (same (has (ascii "cC") b && inTable printedFor b k) (isCharacter f)) (same (has (ascii "tT") b && inTable printedFor b k) (isDate f)) (a .1) in
+    record { printed = same-is _ _ (a .0); character = same-is _ _ (d .0); date = same-is _ _ (d .1) }
 
 -- a character that is a scalar value
 below-surrogates : (n : ℕ) → leb n 0xd7ff ≡ ltb n 0xd800
@@ -167,10 +107,10 @@ below-surrogates n = elim (decLt n 0xd800) [
   | no h ↦ lt-leb n 0xd7ff (omega arith) ∙ sym (le-ltb n 0xd800 (omega arith))
 ]
 
-char-stop : (e : Element) (z : ℤ) → stopOf (charText e (isNegative z) (natAbs z)) ≡ choose (isScalarValue z) (λ _. none) (λ _. some 16)
+char-stop : (e : Element) (z : ℤ) → stopOf (charText e z) ≡ choose (isScalarValue z) (λ _. none) (λ _. some 16)
 char-stop e (pos n) = go (isScalar n) refl
   where
-    go : (t : Bool) → isScalar n ≡ t → stopOf (charText e false n) ≡ choose (isScalarValue (pos n)) (λ _. none) (λ _. some 16)
+    go : (t : Bool) → isScalar n ≡ t → stopOf (charText e (pos n)) ≡ choose (isScalarValue (pos n)) (λ _. none) (λ _. some 16)
     go true q = simp (q, ap (λ (b : Bool). b || (leb 0xe000 n && leb n 0x10ffff)) (below-surrogates n) ∙ q)
     go false q = simp (q, ap (λ (b : Bool). b || (leb 0xe000 n && leb n 0x10ffff)) (below-surrogates n) ∙ q)
 char-stop e (negsuc n) = refl
@@ -185,45 +125,79 @@ date-stop u x (negsuc n) =
       | no q ↦ simp (ne-eqb _ _ q, lt-ltb 0 (suc n % 1000000000) (omega arith))
     ]
 
--- What stops a value in its form.
-module _ (e : Element) (part : List ℕ) (v : ℕ) where
-  abbrev pub stop : Form → Bool → Option ℕ
-  stop f null = stopOf (valueText e f null part v)
+-- The integer of a value in the form of a character is that of its kind.
+abbrev integerAs : Form → ℕ → ℤ
+integerAs (F.Integer f k) v = integerOf (k .signed) v
+integerAs F.HexFloat v = pos 0
+integerAs F.Boolean v = pos 0
+integerAs F.Text v = pos 0
+integerAs (F.Time x) v = pos 0
+integerAs F.NotPrinted v = pos 0
 
-  pub stops-15 : (f : Form) (null : Bool) → isPrinted f ≡ false → stop f null ≡ some 15
-  stops-15 (F.Integer f w) null h = absurd (never (sym h))
-  stops-15 F.HexFloat null h = absurd (never (sym h))
-  stops-15 F.Boolean null h = absurd (never (sym h))
-  stops-15 F.Text null h = absurd (never (sym h))
-  stops-15 (F.Time x) null h = absurd (never (sym h))
-  stops-15 F.NotPrinted null h = refl
+own-kind : (k : Kind) → OfInteger (λ i. i ≡ integerKindOf k) k
+own-kind (K.Integer k) = refl
+own-kind K.Float64 = tt
+own-kind K.Boolean = tt
+own-kind K.Text = tt
+own-kind K.Timestamp = tt
+own-kind K.NoKind = tt
 
-  pub stops-16 : (f : Form) → isCharacter f ≡ true → isScalarValue (intOf 64 v) ≡ false → stop f false ≡ some 16
-  stops-16 (F.Integer (Numeral r) w) h n = absurd (never h)
-  stops-16 (F.Integer Scalar w) h n = char-stop e (intOf 64 v) ∙ simp n
-  stops-16 (F.Integer Digits w) h n = absurd (never h)
-  stops-16 F.HexFloat h n = absurd (never h)
-  stops-16 F.Boolean h n = absurd (never h)
-  stops-16 F.Text h n = absurd (never h)
-  stops-16 (F.Time x) h n = absurd (never h)
-  stops-16 F.NotPrinted h n = absurd (never h)
+same-integer : (c : ConversionType) (x : Entry) → isCharacter (formOf c (x .kind)) ≡ true → integerAs (formOf c (x .kind)) (x .value) ≡ integerIn x
+same-integer c x =
+    form-of (λ f. isCharacter f ≡ true → integerAs f (x .value) ≡ integerIn x) (λ i. i ≡ integerKindOf (x .kind)) (λ h. absurd (never h))
+    (λ f i q _. ap (λ (i : IntegerKind). integerOf (i .signed) (x .value)) q) (λ h. absurd (never h)) (λ h. absurd (never h)) (λ t h. absurd (never h))
+    c (x .kind) (λ _ h. absurd (never h)) (own-kind (x .kind))
 
-  pub stops-18 : (f : Form) (null : Bool) → isDate f ≡ true → isBetweenSeconds (intOf 64 v) ≡ true → stop f null ≡ some 18
-  stops-18 (F.Integer f w) null h n = absurd (never h)
-  stops-18 F.HexFloat null h n = absurd (never h)
-  stops-18 F.Boolean null h n = absurd (never h)
-  stops-18 F.Text null h n = absurd (never h)
-  stops-18 (F.Time x) null h n = date-stop (e .upper) x (intOf 64 v) ∙ simp n
-  stops-18 F.NotPrinted null h n = absurd (never h)
+-- What stops an entry in a form.
+module _ (e : Element) (x : Entry) (part : List ℕ) where
+  abbrev pub stop : Form → Option ℕ
+  stop f = stopOf (valueText e f x part)
 
-  pub goes-on : (f : Form) (null : Bool) → isPrinted f ≡ true → (isCharacter f ≡ true → null ≡ false → isScalarValue (intOf 64 v) ≡ true)
-      → (isDate f ≡ true → isBetweenSeconds (intOf 64 v) ≡ false) → stop f null ≡ none
-  goes-on (F.Integer f w) true h s d = refl
-  goes-on (F.Integer (Numeral r) w) false h s d = refl
-  goes-on (F.Integer Scalar w) false h s d = char-stop e (intOf 64 v) ∙ simp (s refl refl)
-  goes-on (F.Integer Digits w) false h s d = refl
-  goes-on F.HexFloat null h s d = refl
-  goes-on F.Boolean null h s d = refl
-  goes-on F.Text null h s d = refl
-  goes-on (F.Time x) null h s d = date-stop (e .upper) x (intOf 64 v) ∙ simp (d refl)
-  goes-on F.NotPrinted null h s d = absurd (never h)
+  pub stops-15 : (f : Form) → hasForm f ≡ false → stop f ≡ some 15
+  stops-15 (F.Integer f k) h = absurd (never (sym h))
+  stops-15 F.HexFloat h = absurd (never (sym h))
+  stops-15 F.Boolean h = absurd (never (sym h))
+  stops-15 F.Text h = absurd (never (sym h))
+  stops-15 (F.Time t) h = absurd (never (sym h))
+  stops-15 F.NotPrinted h = refl
+
+  as-16 : (f : Form) → isCharacter f ≡ true → x .null ≡ false → isScalarValue (integerAs f (x .value)) ≡ false → stop f ≡ some 16
+  as-16 (F.Integer (Numeral r) k) h m n = absurd (never h)
+  as-16 (F.Integer Scalar k) h m n = simp m (char-stop e (integerOf (k .signed) (x .value)) ∙ simp n)
+  as-16 (F.Integer Digits k) h m n = absurd (never h)
+  as-16 F.HexFloat h m n = absurd (never h)
+  as-16 F.Boolean h m n = absurd (never h)
+  as-16 F.Text h m n = absurd (never h)
+  as-16 (F.Time t) h m n = absurd (never h)
+  as-16 F.NotPrinted h m n = absurd (never h)
+
+  pub stops-16 : (c : ConversionType) → isCharacter (formOf c (x .kind)) ≡ true → x .null ≡ false → isScalarValue (integerIn x) ≡ false
+      → stop (formOf c (x .kind)) ≡ some 16
+  stops-16 c h m n = as-16 (formOf c (x .kind)) h m (ap isScalarValue (same-integer c x h) ∙ n)
+
+  pub stops-18 : (f : Form) → isDate f ≡ true → isBetweenSeconds (intOf 64 (x .value)) ≡ true → stop f ≡ some 18
+  stops-18 (F.Integer f k) h n = absurd (never h)
+  stops-18 F.HexFloat h n = absurd (never h)
+  stops-18 F.Boolean h n = absurd (never h)
+  stops-18 F.Text h n = absurd (never h)
+  stops-18 (F.Time t) h n = date-stop (e .upper) t (intOf 64 (x .value)) ∙ simp n
+  stops-18 F.NotPrinted h n = absurd (never h)
+
+  -- an integer, by whether it is null
+  integer-goes : (f : Form) (null : Bool) → x .null ≡ null → hasForm f ≡ true
+      → (isCharacter f ≡ true → null ≡ false → isScalarValue (integerAs f (x .value)) ≡ true)
+      → (isDate f ≡ true → isBetweenSeconds (intOf 64 (x .value)) ≡ false) → stop f ≡ none
+  integer-goes (F.Integer f k) true m h s d = simp m
+  integer-goes (F.Integer (Numeral r) k) false m h s d = simp m
+  integer-goes (F.Integer Scalar k) false m h s d = simp m (char-stop e (integerOf (k .signed) (x .value)) ∙ simp (s refl refl))
+  integer-goes (F.Integer Digits k) false m h s d = simp m
+  integer-goes F.HexFloat null m h s d = refl
+  integer-goes F.Boolean null m h s d = refl
+  integer-goes F.Text null m h s d = refl
+  integer-goes (F.Time t) null m h s d = date-stop (e .upper) t (intOf 64 (x .value)) ∙ simp (d refl)
+  integer-goes F.NotPrinted null m h s d = absurd (never h)
+
+  pub goes-on : (c : ConversionType) → hasForm (formOf c (x .kind)) ≡ true
+      → (isCharacter (formOf c (x .kind)) ≡ true → x .null ≡ false → isScalarValue (integerIn x) ≡ true)
+      → (isDate (formOf c (x .kind)) ≡ true → isBetweenSeconds (intOf 64 (x .value)) ≡ false) → stop (formOf c (x .kind)) ≡ none
+  goes-on c h s d = integer-goes (formOf c (x .kind)) (x .null) refl h (λ i m. ap isScalarValue (same-integer c x i) ∙ s i m) d

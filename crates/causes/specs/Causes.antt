@@ -14,8 +14,9 @@ use Rattle.grammar.specs.Runs.{begins}
 use Rattle.grammar.specs.Parts.{Written, Part, text, percent, newline, element, bytesBefore}
 use Rattle.grammar.specs.Elements.{kinds, inTable}
 use Rattle.grammar.specs.Readings.{Whole, StopsReading}
-use Rattle.rows.specs.Entry.{isNull}
-use Rattle.rows.specs.Row.{kindByteOf, valueOf, isRow}
+use Rattle.kinds.specs.Kinds.{unmarked}
+use Rattle.rows.specs.Entry.{integerIn}
+use Rattle.rows.specs.Row.{kindByteOf, entryAt, isRow}
 use Rattle.outcomes.specs.Printed.{printedText}
 use Rattle.causes.specs.Calls.{Call, checking, printing, formatIn, kindsIn, OfRow}
 
@@ -41,6 +42,9 @@ abbrev pub printsBytes : List ℕ → ℕ → Bool
 printsBytes [] k = false
 printsBytes (l ∷ more) k = inTable printedFor l k
 
+abbrev pub isPrinted : List ℕ → Written → Bool
+isPrinted row w = printsBytes (w .letter) (unmarked (kindByteOf row (w .argument)))
+
 -- A Unicode scalar value: 0 to D7FF or E000 to 10FFFF, hexadecimal.
 abbrev pub isScalarValue : ℤ → Bool
 isScalarValue (pos n) = leb n 0xd7ff || (leb 0xe000 n && leb n 0x10ffff)
@@ -54,11 +58,11 @@ isBetweenSeconds (negsuc n) = not (eqb (suc n % 1000000000) 0)
 -- "letter not printed for this kind", "%c of no Unicode scalar value", and 02, E1, "at the place of a t or T element, for a negative timestamp there that is
 -- not a whole second", of an element of a row.
 pub data Unprinted (row : List ℕ) (w : Written) : ℕ → Type 0 where
-  not-printed : printsBytes (w .letter) (kindByteOf row (w .argument) % 128) ≡ false → Unprinted row w 15
-  no-scalar : printsBytes (w .letter) (kindByteOf row (w .argument) % 128) ≡ true → begins (has (ascii "cC")) (w .letter) ≡ true
-      → isNull (kindByteOf row (w .argument)) ≡ false → isScalarValue (intOf 64 (valueOf row (w .argument))) ≡ false → Unprinted row w 16
-  no-whole-second : printsBytes (w .letter) (kindByteOf row (w .argument) % 128) ≡ true → begins (has (ascii "tT")) (w .letter) ≡ true
-      → isBetweenSeconds (intOf 64 (valueOf row (w .argument))) ≡ true → Unprinted row w 18
+  not-printed : isPrinted row w ≡ false → Unprinted row w 15
+  no-scalar : isPrinted row w ≡ true → begins (has (ascii "cC")) (w .letter) ≡ true
+      → entryAt row (w .argument) .null ≡ false → isScalarValue (integerIn (entryAt row (w .argument))) ≡ false → Unprinted row w 16
+  no-whole-second : isPrinted row w ≡ true → begins (has (ascii "tT")) (w .letter) ≡ true
+      → isBetweenSeconds (intOf 64 (entryAt row (w .argument) .value)) ≡ true → Unprinted row w 18
 
 -- "then 15 and 16 left to right over a format that passed", and 18 "comes with 15 and 16, left to right": that none of some parts is such, and the
 -- first that is. The last part stands first.

@@ -6,7 +6,7 @@ use mathlib.Core.Bool.{Bool, true, false}
 use mathlib.Core.List.{List}
 use lib.IntN.{ℤ}
 use Rattle.writing.specs.Choose.{choose}
-use Rattle.numerals.specs.Integers.{intOf, bitsOf}
+use Rattle.numerals.specs.Integers.{integerOf, bitsOf}
 use Rattle.numerals.specs.declared.NumericParam.{NumericParam}
 use Rattle.binary64.specs.Fields.{categoryOf}
 use Rattle.binary64.specs.declared.FpCategory.{FpCategory}
@@ -14,6 +14,7 @@ use Rattle.binary64.specs.declared.FpCategory.the-variants as C
 use Rattle.reading.specs.Reading.{Reading, Integer, Bits, readPiece}
 use Rattle.numerals.specs.declared.Radix.{Radix}
 use Rattle.numerals.specs.declared.Radix.the-variants as R
+use Rattle.kinds.specs.declared.IntegerKind.{IntegerKind}
 use Rattle.kinds.specs.declared.IntegerForm.{IntegerForm}
 use Rattle.kinds.specs.declared.IntegerForm.the-variants.{Numeral, Scalar, Digits}
 use Rattle.kinds.specs.declared.Form.{Form}
@@ -43,14 +44,14 @@ FiniteRead C.Infinite b p r = Unit {0}
 FiniteRead C.Finite b p r = FloatRead b p r
 
 -- The bytes t of an integer that is not null, and of any value in its form; what is not printed has none.
-abbrev pub IntegerRead : Element → IntegerForm → ℕ → ℕ → List ℕ → Type 0
-IntegerRead e (Numeral r) w v t = NumeralRead r w (intOf 64 v) (readPiece (numeralLetter r (e .upper)) t)
-IntegerRead e Scalar w v t = Unit {0}
-IntegerRead e Digits w v t = Unit {0}
+abbrev pub IntegerRead : Element → IntegerForm → IntegerKind → ℕ → List ℕ → Type 0
+IntegerRead e (Numeral r) k v t = NumeralRead r (k .width) (integerOf (k .signed) v) (readPiece (numeralLetter r (e .upper)) t)
+IntegerRead e Scalar k v t = Unit {0}
+IntegerRead e Digits k v t = Unit {0}
 
 abbrev pub ValueRead : Element → Form → Bool → ℕ → List ℕ → Type 0
-ValueRead e (F.Integer f w) false v t = IntegerRead e f w v t
-ValueRead e (F.Integer f w) true v t = Unit {0}
+ValueRead e (F.Integer f k) false v t = IntegerRead e f k v t
+ValueRead e (F.Integer f k) true v t = Unit {0}
 ValueRead e F.HexFloat null v t = FiniteRead (categoryOf v) v (e .precision) (readPiece (floatLetter (e .upper)) t)
 ValueRead e F.Boolean null v t = Unit {0}
 ValueRead e F.Text null v t = Unit {0}

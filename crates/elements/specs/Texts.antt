@@ -7,13 +7,14 @@ use lib.Dec.{eqb}
 use lib.IntN.{ℤ, natAbs}
 use Rattle.writing.specs.Choose.{choose}
 use Rattle.writing.specs.Text.{ascii}
-use Rattle.numerals.specs.Integers.{intOf, isNegative}
+use Rattle.numerals.specs.Integers.{intOf, integerOf, isNegative}
 use Rattle.frames.specs.declared.Mark.the-variants.{NoMark}
 use Rattle.binary64.specs.Fields.{negative, categoryOf}
 use Rattle.binary64.specs.declared.FpCategory.{FpCategory}
 use Rattle.binary64.specs.declared.FpCategory.the-variants as C
 use Rattle.kinds.specs.declared.letters.TimeFormat.{TimeFormat}
-use Rattle.kinds.specs.Kinds.{printsAs}
+use Rattle.kinds.specs.Kinds.{formOf}
+use Rattle.kinds.specs.declared.IntegerKind.{IntegerKind}
 use Rattle.kinds.specs.declared.IntegerForm.{IntegerForm}
 use Rattle.kinds.specs.declared.IntegerForm.the-variants.{Numeral, Scalar, Digits}
 use Rattle.kinds.specs.declared.Form.{Form}
@@ -21,9 +22,9 @@ use Rattle.kinds.specs.declared.Form.the-variants as F
 use Rattle.specifiers.specs.declared.Element.{Element}
 use Rattle.numbers.specs.Numbers.{numeralText, floatMark, finiteText}
 use Rattle.utf8.specs.Scalars.{isScalar, utf8Of}
-use Rattle.fields.specs.Cut.{cased}
+use Rattle.fields.specs.Cut.{cutTo, cased}
 use Rattle.dates.specs.Components.{componentText, isEarlyFraction}
-use Rattle.rows.specs.Entry.{isNull}
+use Rattle.rows.specs.declared.entries.Entry.{Entry}
 use Rattle.fields.specs.Texts.{paddedText, formatString, signedText}
 
 -- A text, or the number that stops the call.
@@ -32,15 +33,16 @@ pub data Shown : Type 0 where
   Stops : ℕ → Shown
 
 -- %c: 16 for "no Unicode scalar value"; "precision does nothing on %c of a value that is not null".
-abbrev pub charText : Element → Bool → ℕ → Shown
-charText e negative n =
-    choose negative (λ _. Stops 16) (λ _. choose (isScalar n) (λ _. Text (paddedText e NoMark (utf8Of n))) (λ _. Stops 16))
+abbrev pub charText : Element → ℤ → Shown
+charText e z =
+    choose (isNegative z) (λ _. Stops 16)
+    (λ _. choose (isScalar (natAbs z)) (λ _. Text (paddedText e NoMark (utf8Of (natAbs z)))) (λ _. Stops 16))
 
--- "%s: decimal digits through `format_string`."
-abbrev pub integerText : Element → IntegerForm → ℕ → ℕ → Shown
-integerText e (Numeral r) w v = Text (numeralText e r w v)
-integerText e Scalar w v = charText e (isNegative (intOf 64 v)) (natAbs (intOf 64 v))
-integerText e Digits w v = Text (formatString e (signedText (isNegative (intOf 64 v)) (natAbs (intOf 64 v))))
+-- An integer of the kind k with the pattern v. "%s: decimal digits through `format_string`."
+abbrev pub integerText : Element → IntegerForm → IntegerKind → ℕ → Shown
+integerText e (Numeral r) k v = Text (numeralText e r k v)
+integerText e Scalar k v = charText e (integerOf (k .signed) v)
+integerText e Digits k v = Text (formatString e (signedText (integerOf (k .signed) v)))
 
 -- %a: "NaN has no mark; infinity is `Infinity`", padded as texts are; a finite float is a number.
 abbrev pub floatText : Element → FpCategory → ℕ → List ℕ
@@ -53,19 +55,22 @@ floatText e C.Finite v = finiteText e v
 abbrev pub timeText : Bool → TimeFormat → ℤ → Shown
 timeText upper t z = choose (isEarlyFraction z) (λ _. Stops 18) (λ _. Text (cased upper (componentText t z)))
 
--- A value in its form, null or not; `part` is the text that a value of kind 7 names. "Null prints `null` through `format_string` for all of these"
--- integers; "Null Boolean prints `false`", its value being 0. 15 for a letter that is not printed for the kind.
-abbrev pub valueText : Element → Form → Bool → List ℕ → ℕ → Shown
-valueText e (F.Integer f w) null part v = choose null (λ _. Text (formatString e (ascii "null"))) (λ _. integerText e f w v)
-valueText e F.HexFloat null part v = Text (floatText e (categoryOf v) v)
-valueText e F.Boolean null part v = Text (formatString e (choose (eqb v 0) (λ _. ascii "false") (λ _. ascii "true")))
-valueText e F.Text null part v = Text (formatString e part)
-valueText e (F.Time t) null part v = timeText (e .upper) t (intOf 64 v)
-valueText e F.NotPrinted null part v = Stops 15
+abbrev pub booleanWord : ℕ → List ℕ
+booleanWord v = choose (eqb v 0) (λ _. ascii "false") (λ _. ascii "true")
 
--- An element for the kind byte k, the text `part` and the value v.
-unfoldable pub elementText : Element → ℕ → List ℕ → ℕ → Shown
-elementText e k part v = valueText e (printsAs (e .conversion) k) (isNull k) part v
+-- The entry x in a form; `part` is what the precision leaves of the text that a value of kind 7 names. "Null prints `null` through `format_string` for all of
+-- these" integers; "Null Boolean prints `false`", its value being 0. 15 for a letter that is not printed for the kind.
+abbrev pub valueText : Element → Form → Entry → List ℕ → Shown
+valueText e (F.Integer f k) x part = choose (x .null) (λ _. Text (formatString e (ascii "null"))) (λ _. integerText e f k (x .value))
+valueText e F.HexFloat x part = Text (floatText e (categoryOf (x .value)) (x .value))
+valueText e F.Boolean x part = Text (formatString e (booleanWord (x .value)))
+valueText e F.Text x part = Text (paddedText e NoMark part)
+valueText e (F.Time t) x part = timeText (e .upper) t (intOf 64 (x .value))
+valueText e F.NotPrinted x part = Stops 15
+
+-- An element for the entry x, of which `named` is the text that it names, if it is of kind 7.
+unfoldable pub elementText : Element → Entry → List ℕ → Shown
+elementText e x named = valueText e (formOf (e .conversion) (x .kind)) x (cutTo (e .precision) named)
 
 -- The text of what is printed, and the number of what is not.
 abbrev pub textOf : Shown → List ℕ

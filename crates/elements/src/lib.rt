@@ -8,18 +8,18 @@ use binary64::FpCategory;
 use frames::Mark;
 use kinds::Form;
 use kinds::IntegerForm;
+use kinds::IntegerKind;
 use kinds::letters::TimeFormat;
+use rows::entries::Entry;
 use specifiers::Element;
-ghost use mathlib.Core.Bool.{false};
-ghost use mathlib.Core.List.{[]};
 ghost use Prim.Native.Nat.{_^_, _<_};
-ghost use lib.IntN.{natAbs};
 ghost use lib.ListN.{length};
 ghost use Rattle.writing.specs.Writers.{Put};
-ghost use Rattle.numerals.specs.Integers.{intOf, isNegative};
+ghost use Rattle.numerals.specs.Integers.{intOf, integerOf};
 ghost use Rattle.binary64.specs.Fields.{categoryOf};
-ghost use Rattle.kinds.specs.declared.Form.the-variants as F;
-ghost use Rattle.elements.specs.Texts.{charText, floatText, integerText, timeText, valueText, elementText, textOf};
+ghost use Rattle.kinds.specs.Kinds.{formOf};
+ghost use Rattle.fields.specs.Texts.{formatString};
+ghost use Rattle.elements.specs.Texts.{charText, floatText, integerText, timeText, booleanWord, valueText};
 ghost use Rattle.elements.specs.Sizes.{Sized};
 
 // The length of a text, or the number that stops it.
@@ -29,31 +29,40 @@ pub enum Size {
 }
 
 // %c
-fn format_char(out: &mut [u8], e: Element, value: u64) -> Size
-    ensures { λ r. ⌜ Sized (now (out .entry)) (charText e (isNegative (intOf 64 value)) (natAbs (intOf 64 value))) r (now (out .exit)) ⌝ }
+fn format_char(out: &mut [u8], e: Element, signed: bool, value: u64) -> Size
+    ensures { λ r. ⌜ Sized (now (out .entry)) (charText e (integerOf signed value)) r (now (out .exit)) ⌝ }
 {
-    if numerals::integers::is_negative(value) {
+    let n = numerals::integers::integer_of(signed, value);
+    if n.negative {
         return Size::Stops(refusals::NO_SCALAR);
     }
-    let magnitude = numerals::integers::magnitude(value);
+    let magnitude = n.magnitude;
     if utf8::scalars::is_scalar(magnitude) {
         let mut buffer = [0u8; 4];
-        let n = utf8::scalars::write_scalar(&mut buffer, magnitude as u32);
-        return Size::Bytes(fields::put_padded(out, e, Mark::NoMark, &buffer[..n]));
+        let len = utf8::scalars::write_scalar(&mut buffer, magnitude as u32);
+        return Size::Bytes(fields::put_padded(out, e, Mark::NoMark, &buffer[..len]));
     }
     Size::Stops(refusals::NO_SCALAR)
 }
 
-// An integer of this width that is not null.
-fn format_integer(out: &mut [u8], e: Element, form: IntegerForm, width: u32, value: u64) -> Size
-    ensures { λ r. ⌜ Sized (now (out .entry)) (integerText e form width value) r (now (out .exit)) ⌝ }
+// An integer of this kind that is not null.
+fn format_integer(
+    out: &mut [u8],
+    e: Element,
+    form: IntegerForm,
+    kind: IntegerKind,
+    value: u64,
+) -> Size
+    ensures { λ r. ⌜ Sized (now (out .entry)) (integerText e form kind value) r (now (out .exit)) ⌝ }
 {
     match form {
         IntegerForm::Numeral(radix) => {
-            Size::Bytes(numbers::format_numeral(out, e, radix, width, value))
+            Size::Bytes(numbers::format_numeral(out, e, radix, kind, value))
         }
-        IntegerForm::Scalar => format_char(out, e, value),
-        IntegerForm::Digits => Size::Bytes(fields::format_signed_text(out, e, value)),
+        IntegerForm::Scalar => format_char(out, e, kind.signed, value),
+        IntegerForm::Digits => {
+            Size::Bytes(fields::format_signed_text(out, e, kind.signed, value))
+        }
     }
 }
 
@@ -80,7 +89,7 @@ fn format_hex_float(out: &mut [u8], e: Element, bits: u64) -> u64
 
 // A Boolean; null has the value 0.
 fn format_boolean(out: &mut [u8], e: Element, value: u64) -> u64
-    ensures { λ r. ⌜ Put (now (out .entry)) (textOf (valueText e F.Boolean false [] value)) r (now (out .exit)) × (r < 2 ^ 42) ⌝ }
+    ensures { λ r. ⌜ Put (now (out .entry)) (formatString e (booleanWord value)) r (now (out .exit)) × (r < 2 ^ 42) ⌝ }
 {
     if value == 0 {
         return fields::format_string(out, e, b"false");
@@ -102,26 +111,28 @@ fn format_time(out: &mut [u8], component: TimeFormat, value: u64, upper: bool) -
     Size::Bytes(dates::put_component(out, component, value, false) as u64)
 }
 
-// Writes an element for a row's entry where there is room for it: its kind byte, the text it names, its value.
-fn put_element(out: &mut [u8], e: Element, kind: u8, part: &[u8], value: u64) -> Size
+// Writes an element for a row's entry where there is room for it; part is the unpadded text that the entry names.
+fn put_element(out: &mut [u8], e: Element, entry: Entry, part: &[u8]) -> Size
     requires { ⌜ length (now part) < 2 ^ 32 ⌝ }
-    ensures { λ r. ⌜ Sized (now (out .entry)) (elementText e kind (now (part .entry)) value) r (now (out .exit)) ⌝ }
+    ensures { λ r. ⌜ Sized (now (out .entry)) (valueText e (formOf (e .conversion) (entry .kind)) entry (now (part .entry))) r (now (out .exit)) ⌝ }
 {
     let conversion = e.conversion;
-    let form = kinds::prints_as(conversion, kind);
+    let kind = entry.kind;
+    let value = entry.value;
+    let form = kinds::form_of(conversion, kind);
     match form {
         Form::Integer {
             form: written,
-            width,
+            kind: integer,
         } => {
-            if 128 <= kind {
+            if entry.null {
                 return Size::Bytes(fields::format_string(out, e, b"null"));
             }
-            format_integer(out, e, written, width, value)
+            format_integer(out, e, written, integer, value)
         }
         Form::HexFloat => Size::Bytes(format_hex_float(out, e, value)),
         Form::Boolean => Size::Bytes(format_boolean(out, e, value)),
-        Form::Text => Size::Bytes(fields::format_string(out, e, part)),
+        Form::Text => Size::Bytes(fields::put_padded(out, e, Mark::NoMark, part)),
         Form::Time(component) => format_time(out, component, value, e.upper),
         Form::NotPrinted => Size::Stops(refusals::NOT_PRINTED),
     }

@@ -1,51 +1,72 @@
 // The text of one piece of a format, for a row: what is handed out of the format or the row, and its writer, which writes where there is room.
 // Ported from format_string.rs of datafusion-spark 55.2.0 (Apache-2.0; see NOTICE): one turn of the loop of Formatter::format.
 use crate::Size;
+use numerals::NumericParam;
 use parsing::Piece;
+use rows::entries::Entry;
 use specifiers::Element;
 ghost use mathlib.Core.Path.{_≡_};
 ghost use Prim.Native.Nat.{_^_, _<_};
 ghost use lib.ListN.{length};
 ghost use Rattle.elements.specs.Sizes.{Sized};
+ghost use Rattle.rows.specs.Row.{entryAt};
 ghost use Rattle.rows.specs.Arguments.{Argument};
-ghost use Rattle.elements.specs.PieceTexts.{shownPiece};
-ghost use Rattle.elements.specs.Ready.{Ready, unpadded, shownWith};
+ghost use Rattle.elements.specs.PieceTexts.{shownEntry, shownPiece};
+ghost use Rattle.elements.specs.Ready.{Ready, SourceIn, unpadded};
 
-// The unpadded text of a piece, where it is part of the format or of the row; else it is empty.
-fn unpadded_text<'a>(fmt: &'a [u8], row: &'a [u8], piece: Piece) -> &'a [u8]
-    requires { ⌜ Ready (now fmt) (now row) piece ⌝ }
-    ensures { λ r. ⌜ (now r ≡ unpadded (now (fmt .entry)) (now (row .entry)) piece) × (length (now r) < 2 ^ 32) ⌝ }
+// Where an unpadded text lies: in the format, or in the row, where an entry may name one.
+pub enum Source {
+    Format {
+        start: usize,
+        len: usize,
+    },
+    Row {
+        entry: Entry,
+        precision: NumericParam,
+    },
+}
+
+// The unpadded text that lies there; of an entry that names no text it is empty.
+fn unpadded_text<'a>(fmt: &'a [u8], row: &'a [u8], source: Source) -> &'a [u8]
+    requires { ⌜ SourceIn (now fmt) (now row) source ⌝ }
+    ensures { λ r. ⌜ (now r ≡ unpadded (now (fmt .entry)) (now (row .entry)) source) × (length (now r) < 2 ^ 32) ⌝ }
 {
-    match piece {
-        Piece::Fixed { start, len } => &fmt[start..start + len],
-        Piece::Byte(_) => &fmt[..0],
-        Piece::Element(e) => {
-            let precision = e.precision;
-            fields::strings::cut(precision, rows::named_text(row, e.argument))
+    match source {
+        Source::Format { start, len } => &fmt[start..start + len],
+        Source::Row { entry, precision } => {
+            fields::strings::cut(precision, rows::named_text(row, entry))
         }
     }
 }
 
-// Writes an element where there is room for it; text is its unpadded text.
-fn put_argument(out: &mut [u8], row: &[u8], e: Element, text: &[u8]) -> Size
-    requires { ⌜ (Argument (now row) (e .argument)) × (length (now text) < 2 ^ 32) ⌝ }
-    ensures { λ r. ⌜ Sized (now (out .entry)) (shownWith (now (row .entry)) e (now (text .entry))) r (now (out .exit)) ⌝ }
+// Writes an element where there is room for it.
+fn put_argument<'a>(out: &mut [u8], fmt: &'a [u8], row: &'a [u8], e: Element) -> Size
+    requires { ⌜ Argument (now row) (e .argument) ⌝ }
+    ensures { λ r. ⌜ Sized (now (out .entry)) (shownEntry (now (row .entry)) e (entryAt (now (row .entry)) (e .argument))) r (now (out .exit)) ⌝ }
 {
-    let argument = e.argument;
-    let kind = rows::kind_byte(row, argument);
-    let value = rows::value_of(row, argument);
-    crate::put_element(out, e, kind, text, value)
+    let entry = rows::entry(row, e.argument);
+    let precision = e.precision;
+    let source = Source::Row {
+        entry: entry,
+        precision: precision,
+    };
+    crate::put_element(out, e, entry, unpadded_text(fmt, row, source))
 }
 
-// Writes a piece's text where there is room for it; else writes nothing. Answers its length either way, or the number that stops it.
+// Writes a piece's text where there is room for it; else writes nothing. Returns its length either way, or the number that stops it.
 pub fn put_piece<'a>(out: &mut [u8], fmt: &'a [u8], row: &'a [u8], piece: Piece) -> Size
     requires { ⌜ Ready (now fmt) (now row) piece ⌝ }
     ensures { λ r. ⌜ Sized (now (out .entry)) (shownPiece (now (fmt .entry)) (now (row .entry)) piece) r (now (out .exit)) ⌝ }
 {
-    let text = unpadded_text(fmt, row, piece);
     match piece {
-        Piece::Fixed { start: _, len: _ } => Size::Bytes(writing::put_text(out, text) as u64),
+        Piece::Fixed { start, len } => {
+            let source = Source::Format {
+                start: start,
+                len: len,
+            };
+            Size::Bytes(writing::put_text(out, unpadded_text(fmt, row, source)) as u64)
+        }
         Piece::Byte(b) => Size::Bytes(writing::put_byte(out, b) as u64),
-        Piece::Element(e) => put_argument(out, row, e, text),
+        Piece::Element(e) => put_argument(out, fmt, row, e),
     }
 }

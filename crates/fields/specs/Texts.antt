@@ -4,7 +4,9 @@ use Prim.Native.Char.{code}
 use mathlib.Core.Bool.{Bool, true, false}
 use mathlib.Core.List.{List, _∷_}
 use Rattle.writing.specs.Choose.{choose}
+use lib.IntN.{ℤ, natAbs}
 use Rattle.numerals.specs.Digits.{decimal}
+use Rattle.numerals.specs.Integers.{isNegative}
 use Rattle.specifiers.specs.Params.{widthOf}
 use Rattle.frames.specs.Frame.{padded}
 use Rattle.frames.specs.declared.Mark.{Mark}
@@ -29,6 +31,9 @@ abbrev pub formatString : Element → List ℕ → List ℕ
 formatString e t = paddedText e NoMark (cutTo (e .precision) t)
 
 -- An integer's digits as text.
-abbrev pub signedText : Bool → ℕ → List ℕ
-signedText false n = decimal n
-signedText true n = code "-" ∷ decimal n
+abbrev pub withMinus : Bool → List ℕ → List ℕ
+withMinus false t = t
+withMinus true t = code "-" ∷ t
+
+abbrev pub signedText : ℤ → List ℕ
+signedText z = withMinus (isNegative z) (decimal (natAbs z))

@@ -10,11 +10,11 @@ use specifiers::Element;
 use specifiers::flags::Flags;
 ghost use mathlib.Core.Path.{_≡_};
 ghost use Prim.Native.Nat.{_^_, _≤_, _<_};
-ghost use lib.IntN.{natAbs};
 ghost use lib.ListN.{length};
 ghost use Rattle.writing.specs.Writers.{Wrote, Put};
-ghost use Rattle.numerals.specs.Integers.{intOf, isNegative};
-ghost use Rattle.fields.specs.Texts.{side, paddedText, formatString, signedText};
+ghost use Rattle.numerals.specs.Integers.{integerOf};
+ghost use Rattle.numerals.specs.Digits.{decimal};
+ghost use Rattle.fields.specs.Texts.{side, paddedText, formatString, withMinus, signedText};
 
 // Where spaces stand: behind with `-`, else in front.
 fn side_of(flags: Flags) -> Adjust
@@ -62,7 +62,7 @@ pub fn format_string(out: &mut [u8], e: Element, text: &[u8]) -> u64
 // Writes an integer's digits as text. Answers the length.
 fn write_signed_text(out: &mut [u8], negative: bool, magnitude: u64) -> usize
     requires { ⌜ 21 ≤ length (now out) ⌝ }
-    ensures { λ r. ⌜ Wrote (now (out .entry)) (signedText negative magnitude) r (now (out .exit)) × (r ≤ 21) ⌝ }
+    ensures { λ r. ⌜ Wrote (now (out .entry)) (withMinus negative (decimal magnitude)) r (now (out .exit)) × (r ≤ 21) ⌝ }
 {
     let n = numerals::decimal_len(magnitude);
     if negative {
@@ -73,15 +73,11 @@ fn write_signed_text(out: &mut [u8], negative: bool, magnitude: u64) -> usize
 }
 
 // %s of an integer
-pub fn format_signed_text(out: &mut [u8], e: Element, value: u64) -> u64
-    ensures { λ r.
-        ⌜ Put (now (out .entry)) (formatString e (signedText (isNegative (intOf 64 value)) (natAbs (intOf 64 value)))) r (now (out .exit)) × (r < 2 ^ 42) ⌝ }
+pub fn format_signed_text(out: &mut [u8], e: Element, signed: bool, value: u64) -> u64
+    ensures { λ r. ⌜ Put (now (out .entry)) (formatString e (signedText (integerOf signed value))) r (now (out .exit)) × (r < 2 ^ 42) ⌝ }
 {
     let mut buffer = [0u8; 21];
-    let n = write_signed_text(
-        &mut buffer,
-        numerals::integers::is_negative(value),
-        numerals::integers::magnitude(value),
-    );
-    format_string(out, e, &buffer[..n])
+    let n = numerals::integers::integer_of(signed, value);
+    let len = write_signed_text(&mut buffer, n.negative, n.magnitude);
+    format_string(out, e, &buffer[..len])
 }

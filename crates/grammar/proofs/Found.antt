@@ -9,6 +9,7 @@ use native.Mathlib.Omega.{arith}
 use lib.Dec.{eqb}
 use lib.ListN.{length, getD, drop, length-append, length-drop}
 use Rattle.writing.specs.Text.{ascii}
+use Rattle.kinds.specs.Kinds.{kindIn}
 use Rattle.specifiers.specs.Flags.{flagsOf}
 use Rattle.specifiers.specs.Specifier.{beginsWith, letterFrom, specifierAt}
 use Rattle.specifiers.specs.declared.Element.{Element}
@@ -161,7 +162,7 @@ module _ (s ks : List ℕ) (c : Cursor) (before : List Part) (at : At before c) 
     element-found =
         let h = so-far s ks c before at r here known x .width .flags .argued in
         let n = named-so s ks c before at r here known x in
-        let q : specifierAt s (h .next) (w .argument) (getD ks (w .argument - 1) 0) ≡ S.Read holds (behind .at) =
+        let q : specifierAt s (h .next) (w .argument) (kindIn (getD ks (w .argument - 1) 0)) ≡ S.Read holds (behind .at) =
         read-letter s ks c before at r here known x ∙ simp (same-fit s ks c before at r here known x ∙ fit) in
         specifier-step s ks c before at r here n h ∙ ap (afterSpecifier (w .argument) (countedBy (w .choice) (c .count))) q
 

@@ -4,7 +4,6 @@ use mathlib.Core.Bool.{Bool, true, false, not, _&&_, _||_}
 use mathlib.Core.List.{List, [], _∷_, _++_}
 use Prim.Native.Nat.{ℕ, _+_}
 use Prim.Native.Char.{code}
-use native.Mathlib.Decide.{ℕ-discrete}
 use native.Mathlib.Omega.{arith}
 use lib.Dec.{eqb}
 use lib.ListN.{length, drop}
@@ -13,11 +12,10 @@ use Rattle.writing.specs.Choose.{choose}
 use Rattle.writing.specs.Text.{ascii, has}
 use Rattle.writing.proofs.Choose.{by-test, both}
 use Rattle.kinds.specs.Letters.{lookup, timeLetters as timeTable, timeOf, smallLetters, smallOf, capitalLetters, capitalOf}
-use Rattle.kinds.specs.Kinds.{integerKinds, otherKinds, isIntegerKind, kindOf, fits, isKnown}
+use Rattle.kinds.specs.Kinds.{kinds as table, kindOf, isKnown, isTimestamp, fits}
 use Rattle.kinds.specs.declared.letters.ConversionType.{ConversionType}
 use Rattle.kinds.specs.declared.letters.ConversionType.the-variants.{Time}
-use Rattle.kinds.specs.declared.Kind.the-variants as K
-use Rattle.kinds.specs.declared.KindByte.the-variants.{Known, Unknown}
+use Rattle.kinds.specs.declared.Kind.the-variants.{NoKind}
 use Rattle.kinds.specs.declared.letters.Letter.{Letter}
 use Rattle.kinds.specs.declared.letters.Letter.the-variants.{Conversion, NoConversion}
 use Rattle.kinds.specs.declared.letters.TimeLetter.{TimeLetter}
@@ -64,7 +62,7 @@ wasRead (L.Read c u at) = true
 wasRead (L.Refused n) = false
 
 abbrev fitsRead : LetterTaken → ℕ → Bool
-fitsRead (L.Read c u at) k = fits c k
+fitsRead (L.Read c u at) k = fits c (kindOf k)
 fitsRead (L.Refused n) k = false
 
 abbrev pub same : Bool → Bool → Bool
@@ -84,7 +82,7 @@ unfolding all one smallOf capitalOf
 all-read = refl
 
 all-fit : all (λ b. all (λ k. same (inTable needs b k) (fitsRead (one b) k)) kinds) letters ≡ true
-unfolding all has one smallOf capitalOf isIntegerKind
+unfolding all has one smallOf capitalOf kindOf
 all-fit = refl
 
 -- which conversion a letter names, and whether it is a capital
@@ -108,7 +106,7 @@ all-times = refl
 -- A letter is read, behind the place where it stands; it fits a kind as the table says.
 pub record LetterIs (x : List ℕ) (c : ConversionType) (u : Bool) : Type 0 where
   pub read : (rest : List ℕ) (at : ℕ) → letterFrom (x ++ rest) at ≡ L.Read c u (at + length x)
-  pub fits-as : (k : ℕ) → has kinds k ≡ true → fitsBytes x k ≡ fits c k
+  pub fits-as : (k : ℕ) → has kinds k ≡ true → fitsBytes x k ≡ fits c (kindOf k)
   pub named : begins (has (lettersOf c)) x ≡ true
   pub component : namesComponent c (drop 1 x) ≡ true
   pub capital : u ≡ begins (has capitals) x
@@ -194,18 +192,13 @@ second t h rest at = go (eqb t (code "t")) (eqb t (code "T")) refl refl (either-
     go false true p q e = refl
     go false false p q e = absurd (never e)
 
--- what a table says of t and T, where one row has them, with kind 8 alone
-pub eight : (k : ℕ) → ((eqb 8 k || false) || false) ≡ eqb k 8
-eight k = elim (ℕ-discrete k 8) [ yes p ↦ rw p refl | no q ↦ simp (ne-eqb k 8 q, ne-eqb 8 k (λ e. q (sym e))) ]
-
-time-fits : (t k : ℕ) → has (ascii "tT") t ≡ true → inTable needs t k ≡ eqb k 8
-unfolding has
-time-fits t k h = go (eqb t (code "t")) (eqb t (code "T")) refl refl (either-time t h)
-  where
-    go : (a b : Bool) → eqb t (code "t") ≡ a → eqb t (code "T") ≡ b → (a || b) ≡ true → inTable needs t k ≡ eqb k 8
-    go true b p q e = ap (λ (x : ℕ). inTable needs x k) (eqb-true t (code "t") p) ∙ eight k
-    go false true p q e = ap (λ (x : ℕ). inTable needs x k) (eqb-true t (code "T") q) ∙ eight k
-    go false false p q e = absurd (never e)
+-- what the table of fit says of t and T
+time-fits : (t k : ℕ) → has (ascii "tT") t ≡ true → has kinds k ≡ true → inTable needs t k ≡ isTimestamp (kindOf k)
+unfolding all has kindOf
+time-fits t k h i =
+    same-is (inTable needs t k) (isTimestamp (kindOf k))
+    (all-has (λ k. same (inTable needs t k) (isTimestamp (kindOf k))) kinds k
+    (all-has (λ t. all (λ k. same (inTable needs t k) (isTimestamp (kindOf k))) kinds) (ascii "tT") t refl h) i)
 
 time-capital : (t : ℕ) → has (ascii "tT") t ≡ true → eqb t (code "T") ≡ has capitals t
 unfolding all has
@@ -220,7 +213,7 @@ time-letter t l h i = go (timeOf l) refl (all-has (λ b. namesTime (timeOf b) b)
       upper = eqb t (code "T");
       is = record {
         read = λ rest at. second t h (l ∷ rest) at ∙ ap (λ (x : TimeLetter). timeLetter (eqb t (code "T")) x at) p;
-        fits-as = λ k _. time-fits t k h;
+        fits-as = λ k i. time-fits t k h i;
         named = h;
         component = r;
         capital = time-capital t h;
@@ -260,6 +253,5 @@ known-kind k e = go (has kinds k) refl
     go : (t : Bool) → has kinds k ≡ t → t ≡ true
     go true p = refl
     go false p =
-        let others = no-key (λ b. b) Known Unknown kinds otherKinds k refl p in
-        let none = no-key (λ b. b) (λ w. Known (K.Signed w)) (lookup (λ b. b) Known Unknown otherKinds k) kinds integerKinds k refl p in
-        absurd (never (sym (ap isKnown (none ∙ others)) ∙ e))
+        let none = no-key (λ b. b) (λ k. k) NoKind kinds table k refl p in
+        absurd (never (sym (ap isKnown none) ∙ e))

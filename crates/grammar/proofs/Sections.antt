@@ -10,6 +10,8 @@ use lib.ListN.{length, getD, drop}
 use borrow.Author.Tests.{le-leb}
 use Rattle.refusals.specs.Limits.{largestNumber}
 use Rattle.writing.specs.Text.{ascii, has}
+use Rattle.kinds.specs.Kinds.{kindIn}
+use Rattle.kinds.specs.declared.Kind.{Kind}
 use Rattle.specifiers.specs.Params.{isDigit, isParam, paramAt}
 use Rattle.numerals.specs.declared.NumericParam.the-variants.{FromArgument}
 use Rattle.specifiers.specs.declared.params.Taken.the-variants.{Param}
@@ -49,8 +51,8 @@ module _ (s : List ℕ) (at : ℕ) where
 
 -- Behind the parts `before`, where the bytes r stand.
 module _ (s ks : List ℕ) (c : Cursor) (before : List Part) (at : At before c) (r : List ℕ) (here : drop (c .at) s ≡ r) (w : Written) where
-  abbrev kind : ℕ
-  kind = getD ks (w .argument - 1) 0
+  abbrev kind : Kind
+  kind = kindIn (getD ks (w .argument - 1) 0)
 
   -- Where reading stands behind the argument, the flags, the width and the precision of the element w, before the bytes `rest`.
   pub record Argued (rest : List ℕ) : Type 0 where

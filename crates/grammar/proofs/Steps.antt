@@ -10,7 +10,7 @@ use lib.ListN.{length, getD, drop}
 use borrow.Author.Tests.{eq-eqb, lt-leb}
 use Rattle.writing.specs.Text.{ascii, has}
 use Rattle.specifiers.specs.Params.{isDigit}
-use Rattle.kinds.specs.Kinds.{fitsKind}
+use Rattle.kinds.specs.Kinds.{kindIn, fits}
 use Rattle.specifiers.specs.Flags.{flagsOf}
 use Rattle.specifiers.specs.Specifier.{beginsWith, afterLetter, specifierAt}
 use Rattle.specifiers.specs.declared.LetterTaken.the-variants as L
@@ -62,11 +62,11 @@ module _ (s ks : List ℕ) (c : Cursor) (before : List Part) (at : At before c) 
     module _ {w : Written} {rest : List ℕ} (n : Named (length ks) before r w rest) where
       pub specifier-step : (h : Argued s ks c before at r here w rest)
           → pieceAt s ks c
-          ≡ afterSpecifier (w .argument) (countedBy (w .choice) (c .count)) (specifierAt s (h .next) (w .argument) (getD ks (w .argument - 1) 0))
+          ≡ afterSpecifier (w .argument) (countedBy (w .choice) (c .count)) (specifierAt s (h .next) (w .argument) (kindIn (getD ks (w .argument - 1) 0)))
       specifier-step h = begun-step (n .begun) ∙ ap (afterIndex s ks) (h .read)
 
       refused-step : (h : Argued s ks c before at r here w rest) (number : ℕ)
-          → specifierAt s (h .next) (w .argument) (getD ks (w .argument - 1) 0) ≡ S.Refused number → pieceAt s ks c ≡ Refused number
+          → specifierAt s (h .next) (w .argument) (kindIn (getD ks (w .argument - 1) 0)) ≡ S.Refused number → pieceAt s ks c ≡ Refused number
       refused-step h number e = specifier-step h ∙ ap (afterSpecifier (w .argument) (countedBy (w .choice) (c .count))) e
 
       pub first-argument : (h : Argued s ks c before at r here w rest) → 1 ≤ w .argument
@@ -83,19 +83,18 @@ module _ (s ks : List ℕ) (c : Cursor) (before : List Part) (at : At before c) 
       pub is-letter : SomeLetter (w .letter)
       is-letter = letter-is (x .letter)
 
-      pub same-fit : fitsKind (is-letter .conversion) (getD ks (w .argument - 1) 0) ≡ fitsBytes (w .letter) (kindAt ks (w .argument))
-      unfolding fitsKind
+      pub same-fit : fits (is-letter .conversion) (kindIn (getD ks (w .argument - 1) 0)) ≡ fitsBytes (w .letter) (kindAt ks (w .argument))
       same-fit =
           sym (is-letter .is .fits-as (kindAt ks (w .argument))
           (known (w .argument) (first-argument named-so (so-far .width .flags .argued)) (named-so .exists)))
 
-      pub read-letter : specifierAt s (so-far .width .flags .argued .next) (w .argument) (getD ks (w .argument - 1) 0)
-          ≡ afterLetter (w .argument) (getD ks (w .argument - 1) 0)
+      pub read-letter : specifierAt s (so-far .width .flags .argued .next) (w .argument) (kindIn (getD ks (w .argument - 1) 0))
+          ≡ afterLetter (w .argument) (kindIn (getD ks (w .argument - 1) 0))
           (record { flags = flagsOf (w .flags); width = paramRead (w .width); precision = precisionRead (w .precision) })
           (L.Read (is-letter .conversion) (is-letter .upper) (so-far .place + length (w .letter)))
       read-letter =
           letter-next s ks c before at r here w so-far
-          ∙ ap (afterLetter (w .argument) (getD ks (w .argument - 1) 0) _) (is-letter .is .read rest (so-far .place))
+          ∙ ap (afterLetter (w .argument) (kindIn (getD ks (w .argument - 1) 0)) _) (is-letter .is .read rest (so-far .place))
 
       no-fit-step : fitsBytes (w .letter) (kindAt ks (w .argument)) ≡ false → pieceAt s ks c ≡ Refused 12
       no-fit-step n = refused-step named-so (so-far .width .flags .argued) 12 (read-letter ∙ simp (same-fit ∙ n))
@@ -127,9 +126,9 @@ module _ (s ks : List ℕ) (c : Cursor) (before : List Part) (at : At before c) 
   fault-step known r here number (K.no-letter {w} {rest} x n) =
       let h = parts-taken s ks c before at r here w x in
       refused-step r here (x .wide .flagged .named) (h .width .flags .argued) 10
-      (letter-next s ks c before at r here w h ∙ ap (afterLetter (w .argument) (getD ks (w .argument - 1) 0) _) (no-letter-is rest (h .place) n))
+      (letter-next s ks c before at r here w h ∙ ap (afterLetter (w .argument) (kindIn (getD ks (w .argument - 1) 0)) _) (no-letter-is rest (h .place) n))
   fault-step known r here number (K.no-time-letter {w} {t} {rest} x i n) =
       let h = parts-taken s ks c before at r here w x in
       refused-step r here (x .wide .flagged .named) (h .width .flags .argued) 11
-      (letter-next s ks c before at r here w h ∙ ap (afterLetter (w .argument) (getD ks (w .argument - 1) 0) _) (no-time-is t rest (h .place) i n))
+      (letter-next s ks c before at r here w h ∙ ap (afterLetter (w .argument) (kindIn (getD ks (w .argument - 1) 0)) _) (no-time-is t rest (h .place) i n))
   fault-step known r here number (K.no-fit x n) = no-fit-step r here known x n

@@ -1,5 +1,5 @@
 -- What it is to stand in a format, part by part, each run as long as it can be. 01, "A format checked". For laws alone.
-use Prim.Native.Nat.{ℕ, suc, _-_, _%_, _≤_}
+use Prim.Native.Nat.{ℕ, suc, _-_, _≤_}
 use Prim.Native.Char.{code}
 use mathlib.Core.Path.{_≡_}
 use mathlib.Core.Bool.{Bool, true, false, not, _&&_, _||_}
@@ -9,6 +9,7 @@ use lib.Dec.{eqb}
 use lib.ListN.{length, getD}
 use Rattle.refusals.specs.Limits.{largestNumber}
 use Rattle.writing.specs.Text.{ascii, has}
+use Rattle.kinds.specs.Kinds.{unmarked}
 use Rattle.specifiers.specs.Params.{isDigit}
 use Rattle.grammar.specs.Runs.{begins, all, Run, numberIn}
 use Rattle.grammar.specs.Parts.{Choice, same, index, counted, choiceBytes, Written, precisionBytes}
@@ -111,7 +112,7 @@ inTable [] l k = false
 inTable (row ∷ rows) l k = (has (row .0) l && has (row .1) k) || inTable rows l k
 
 abbrev pub kindAt : List ℕ → ℕ → ℕ
-kindAt ks a = getD ks (a - 1) 0 % 128
+kindAt ks a = unmarked (getD ks (a - 1) 0)
 
 abbrev pub fitsBytes : List ℕ → ℕ → Bool
 fitsBytes [] k = false

@@ -6,16 +6,24 @@ use letters::ConversionType;
 use letters::TimeFormat;
 use numerals::Radix;
 ghost use mathlib.Core.Path.{_≡_};
-ghost use Rattle.kinds.specs.Kinds.{kindOf, isKnown, allKnown, isIntegerKind, isNumberKind, fits, fitsKind, integerForm, onlyIf, formOf, printsAs};
-ghost use Rattle.kinds.specs.declared.Form.the-variants.{NotPrinted};
+ghost use mathlib.Core.Bool.{true};
+ghost use Rattle.kinds.specs.Kinds.{kindOf, kindIn, isNull, isKnown, allKnown, isInteger, isFloat, isNumber, isBoolean, isText, isTimestamp, fits};
+ghost use Rattle.kinds.specs.Kinds.{integerForm, onlyIf, formOf};
 
-// A kind of value: a signed integer with its width in bits, a binary64 float, a Boolean, a text, a timestamp.
+// An integer kind: its width in bits, and whether its values have a sign.
+pub struct IntegerKind {
+    pub width: u32,
+    pub signed: bool,
+}
+
+// A kind of value: an integer, a binary64 float, a Boolean, a text, a timestamp; or that a byte names none.
 pub enum Kind {
-    Signed(u32),
+    Integer(IntegerKind),
     Float64,
     Boolean,
     Text,
     Timestamp,
+    NoKind,
 }
 
 // How an integer is printed: as a numeral, as the character that it numbers, or by its decimal digits as text.
@@ -27,7 +35,10 @@ pub enum IntegerForm {
 
 // How a value is printed.
 pub enum Form {
-    Integer { form: IntegerForm, width: u32 },
+    Integer {
+        form: IntegerForm,
+        kind: IntegerKind,
+    },
     HexFloat,
     Boolean,
     Text,
@@ -35,38 +46,63 @@ pub enum Form {
     NotPrinted,
 }
 
-pub enum KindByte {
-    Known(Kind),
-    Unknown,
+// What a kind byte has added where the value is null.
+const NULL_MARK: u8 = 128;
+
+fn signed_kind(width: u32) -> Kind
+    ensures { λ r. ⌜ r ≡ Kind.Integer (record { width = width; signed = true }) ⌝ }
+{
+    Kind::Integer(IntegerKind {
+        width: width,
+        signed: true,
+    })
 }
 
-// The kind that a byte without its null mark names.
-pub fn kind_of(b: u8) -> KindByte
+// The kind that a byte names.
+fn kind_of(b: u8) -> Kind
     ensures { λ r. ⌜ r ≡ kindOf b ⌝ }
 {
     match b {
-        1 => KindByte::Known(Kind::Signed(8)),
-        2 => KindByte::Known(Kind::Signed(16)),
-        3 => KindByte::Known(Kind::Signed(32)),
-        4 => KindByte::Known(Kind::Signed(64)),
-        5 => KindByte::Known(Kind::Float64),
-        6 => KindByte::Known(Kind::Boolean),
-        7 => KindByte::Known(Kind::Text),
-        8 => KindByte::Known(Kind::Timestamp),
-        _ => KindByte::Unknown,
+        1 => signed_kind(8),
+        2 => signed_kind(16),
+        3 => signed_kind(32),
+        4 => signed_kind(64),
+        5 => Kind::Float64,
+        6 => Kind::Boolean,
+        7 => Kind::Text,
+        8 => Kind::Timestamp,
+        _ => Kind::NoKind,
     }
 }
 
-fn is_known(k: KindByte) -> bool
-    ensures { λ r. ⌜ r ≡ isKnown k ⌝ }
+// The kind of a row's kind byte, with a null mark or without.
+pub fn kind_in(byte: u8) -> Kind
+    ensures { λ r. ⌜ r ≡ kindIn byte ⌝ }
 {
-    match k {
-        KindByte::Known(_) => true,
-        KindByte::Unknown => false,
+    kind_of(byte % NULL_MARK)
+}
+
+// Whether a row's kind byte has a null mark.
+pub fn is_null(byte: u8) -> bool
+    ensures { λ r. ⌜ r ≡ isNull byte ⌝ }
+{
+    NULL_MARK <= byte
+}
+
+fn is_known(kind: Kind) -> bool
+    ensures { λ r. ⌜ r ≡ isKnown kind ⌝ }
+{
+    match kind {
+        Kind::Integer(_) => true,
+        Kind::Float64 => true,
+        Kind::Boolean => true,
+        Kind::Text => true,
+        Kind::Timestamp => true,
+        Kind::NoKind => false,
     }
 }
 
-// Whether every byte is a kind.
+// Whether every byte names a kind.
 pub fn all_known(kinds: &[u8]) -> bool
     ensures { λ r. ⌜ r ≡ allKnown (now (kinds .entry)) ⌝ }
 {
@@ -80,83 +116,128 @@ pub fn all_known(kinds: &[u8]) -> bool
     true
 }
 
-fn is_integer(kind: u8) -> bool
-    ensures { λ r. ⌜ r ≡ isIntegerKind kind ⌝ }
+fn is_integer(kind: Kind) -> bool
+    ensures { λ r. ⌜ r ≡ isInteger kind ⌝ }
 {
     match kind {
-        1 => true,
-        2 => true,
-        3 => true,
-        4 => true,
-        _ => false,
+        Kind::Integer(_) => true,
+        Kind::Float64 => false,
+        Kind::Boolean => false,
+        Kind::Text => false,
+        Kind::Timestamp => false,
+        Kind::NoKind => false,
     }
 }
 
-fn is_number(kind: u8) -> bool
-    ensures { λ r. ⌜ r ≡ isNumberKind kind ⌝ }
+fn is_float(kind: Kind) -> bool
+    ensures { λ r. ⌜ r ≡ isFloat kind ⌝ }
+{
+    match kind {
+        Kind::Integer(_) => false,
+        Kind::Float64 => true,
+        Kind::Boolean => false,
+        Kind::Text => false,
+        Kind::Timestamp => false,
+        Kind::NoKind => false,
+    }
+}
+
+fn is_number(kind: Kind) -> bool
+    ensures { λ r. ⌜ r ≡ isNumber kind ⌝ }
 {
     if is_integer(kind) {
         return true;
     }
-    kind == 5
+    is_float(kind)
+}
+
+fn is_boolean(kind: Kind) -> bool
+    ensures { λ r. ⌜ r ≡ isBoolean kind ⌝ }
+{
+    match kind {
+        Kind::Integer(_) => false,
+        Kind::Float64 => false,
+        Kind::Boolean => true,
+        Kind::Text => false,
+        Kind::Timestamp => false,
+        Kind::NoKind => false,
+    }
+}
+
+pub fn is_text(kind: Kind) -> bool
+    ensures { λ r. ⌜ r ≡ isText kind ⌝ }
+{
+    match kind {
+        Kind::Integer(_) => false,
+        Kind::Float64 => false,
+        Kind::Boolean => false,
+        Kind::Text => true,
+        Kind::Timestamp => false,
+        Kind::NoKind => false,
+    }
+}
+
+fn is_timestamp(kind: Kind) -> bool
+    ensures { λ r. ⌜ r ≡ isTimestamp kind ⌝ }
+{
+    match kind {
+        Kind::Integer(_) => false,
+        Kind::Float64 => false,
+        Kind::Boolean => false,
+        Kind::Text => false,
+        Kind::Timestamp => true,
+        Kind::NoKind => false,
+    }
 }
 
 // Whether a conversion fits a kind.
-fn fits(conversion: ConversionType, kind: u8) -> bool
+pub fn validate(conversion: ConversionType, kind: Kind) -> bool
     ensures { λ r. ⌜ r ≡ fits conversion kind ⌝ }
 {
     match conversion {
-        ConversionType::Boolean => kind == 6,
-        ConversionType::HexHash => true,
-        ConversionType::String => true,
+        ConversionType::Boolean => is_boolean(kind),
+        ConversionType::HexHash => is_known(kind),
+        ConversionType::String => is_known(kind),
         ConversionType::Char => is_integer(kind),
         ConversionType::Integer(_) => is_integer(kind),
         ConversionType::DecimalFloat => is_number(kind),
         ConversionType::HexFloat => is_number(kind),
-        ConversionType::Time(_) => kind == 8,
+        ConversionType::Time(_) => is_timestamp(kind),
     }
 }
 
-// Whether a conversion fits the kind of this byte, a null mark aside.
-pub fn validate(conversion: ConversionType, kind: u8) -> bool
-    ensures { λ r. ⌜ r ≡ fitsKind conversion kind ⌝ }
-{
-    fits(conversion, kind % 128)
-}
-
 // An integer in this form; no other kind has it.
-fn integer_form(form: IntegerForm, kind: u8) -> Form
-    ensures { λ r. ⌜ r ≡ integerForm form kind NotPrinted ⌝ }
+fn integer_form(form: IntegerForm, kind: Kind) -> Form
+    ensures { λ r. ⌜ r ≡ integerForm form kind ⌝ }
 {
     match kind {
-        1 => Form::Integer {
+        Kind::Integer(k) => Form::Integer {
             form: form,
-            width: 8,
+            kind: k,
         },
-        2 => Form::Integer {
-            form: form,
-            width: 16,
-        },
-        3 => Form::Integer {
-            form: form,
-            width: 32,
-        },
-        4 => Form::Integer {
-            form: form,
-            width: 64,
-        },
-        _ => Form::NotPrinted,
+        Kind::Float64 => Form::NotPrinted,
+        Kind::Boolean => Form::NotPrinted,
+        Kind::Text => Form::NotPrinted,
+        Kind::Timestamp => Form::NotPrinted,
+        Kind::NoKind => Form::NotPrinted,
     }
 }
 
 // %s: an integer's digits, or a text.
-fn string_form(kind: u8) -> Form
+fn string_form(kind: Kind) -> Form
     ensures { λ r. ⌜ r ≡ formOf ConversionType.String kind ⌝ }
 {
-    if kind == 7 {
-        return Form::Text;
+    match kind {
+        Kind::Integer(k) => Form::Integer {
+            form: IntegerForm::Digits,
+            kind: k,
+        },
+        Kind::Float64 => Form::NotPrinted,
+        Kind::Boolean => Form::NotPrinted,
+        Kind::Text => Form::Text,
+        Kind::Timestamp => Form::NotPrinted,
+        Kind::NoKind => Form::NotPrinted,
     }
-    integer_form(IntegerForm::Digits, kind)
 }
 
 fn only_if(test: bool, form: Form) -> Form
@@ -169,24 +250,17 @@ fn only_if(test: bool, form: Form) -> Form
 }
 
 // How a conversion prints a kind.
-fn form_of(conversion: ConversionType, kind: u8) -> Form
+pub fn form_of(conversion: ConversionType, kind: Kind) -> Form
     ensures { λ r. ⌜ r ≡ formOf conversion kind ⌝ }
 {
     match conversion {
-        ConversionType::Boolean => only_if(kind == 6, Form::Boolean),
+        ConversionType::Boolean => only_if(is_boolean(kind), Form::Boolean),
         ConversionType::HexHash => Form::NotPrinted,
         ConversionType::String => string_form(kind),
         ConversionType::Char => integer_form(IntegerForm::Scalar, kind),
         ConversionType::Integer(radix) => integer_form(IntegerForm::Numeral(radix), kind),
         ConversionType::DecimalFloat => Form::NotPrinted,
-        ConversionType::HexFloat => only_if(kind == 5, Form::HexFloat),
-        ConversionType::Time(component) => only_if(kind == 8, Form::Time(component)),
+        ConversionType::HexFloat => only_if(is_float(kind), Form::HexFloat),
+        ConversionType::Time(component) => only_if(is_timestamp(kind), Form::Time(component)),
     }
-}
-
-// How a conversion prints the kind of this byte, a null mark aside.
-pub fn prints_as(conversion: ConversionType, kind: u8) -> Form
-    ensures { λ r. ⌜ r ≡ printsAs conversion kind ⌝ }
-{
-    form_of(conversion, kind % 128)
 }

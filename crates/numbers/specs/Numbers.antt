@@ -2,11 +2,12 @@
 use Prim.Native.Nat.{ℕ, _%_, _^_}
 use mathlib.Core.Bool.{Bool, true, false}
 use mathlib.Core.List.{List}
-use lib.IntN.{natAbs}
+use lib.IntN.{ℤ, natAbs}
 use Rattle.writing.specs.Choose.{choose}
 use Rattle.numerals.specs.Digits.{numeral, decimal}
 use Rattle.numerals.specs.Grouping.{grouped}
-use Rattle.numerals.specs.Integers.{intOf, isNegative}
+use Rattle.numerals.specs.Integers.{integerOf, isNegative}
+use Rattle.kinds.specs.declared.IntegerKind.{IntegerKind}
 use Rattle.specifiers.specs.Params.{widthOf}
 use Rattle.frames.specs.Frame.{padded}
 use Rattle.frames.specs.declared.Mark.{Mark}
@@ -43,6 +44,9 @@ abbrev pub commas : Bool → List ℕ → List ℕ
 commas true t = grouped t
 commas false t = t
 
+abbrev pub decimalText : Element → ℤ → List ℕ
+decimalText e z = paddedNumber e (integerMark (e .flags) (isNegative z)) NoPrefix (commas (e .flags .grouping) (decimal (natAbs z)))
+
 -- %x, %o: "`#` puts `0x`, `0X` or `0` in front"; "Other marks, commas and precision do nothing."
 abbrev pub ifAlternate : Flags → Prefix → Prefix
 ifAlternate f p = choose (f .alternate) (λ _. p) (λ _. NoPrefix)
@@ -51,13 +55,12 @@ abbrev pub hexPrefix : Bool → Prefix
 hexPrefix false = HexLower
 hexPrefix true = HexUpper
 
--- An integer of w bits with the 64-bit pattern v. "%x %X %o: `format_unsigned` on the bits at the kind's own width".
-abbrev pub numeralText : Element → Radix → ℕ → ℕ → List ℕ
-numeralText e R.Decimal w v =
-    paddedNumber e (integerMark (e .flags) (isNegative (intOf 64 v))) NoPrefix (commas (e .flags .grouping) (decimal (natAbs (intOf 64 v))))
-numeralText e R.Octal w v = paddedNumber e NoMark (ifAlternate (e .flags) Octal) (numeral false 8 (v % 2 ^ w))
-numeralText e R.Hexadecimal w v =
-    paddedNumber e NoMark (ifAlternate (e .flags) (hexPrefix (e .upper))) (numeral (e .upper) 16 (v % 2 ^ w))
+-- An integer of the kind k with the 64-bit pattern v. "%x %X %o: `format_unsigned` on the bits at the kind's own width".
+abbrev pub numeralText : Element → Radix → IntegerKind → ℕ → List ℕ
+numeralText e R.Decimal k v = decimalText e (integerOf (k .signed) v)
+numeralText e R.Octal k v = paddedNumber e NoMark (ifAlternate (e .flags) Octal) (numeral false 8 (v % 2 ^ k .width))
+numeralText e R.Hexadecimal k v =
+    paddedNumber e NoMark (ifAlternate (e .flags) (hexPrefix (e .upper))) (numeral (e .upper) 16 (v % 2 ^ k .width))
 
 -- %a: "Mark: `-` by the sign bit, else `+`, else space."
 abbrev pub floatMark : Flags → Bool → Mark

@@ -5,17 +5,19 @@ use frames::Adjust;
 use frames::Mark;
 use frames::Prefix;
 use frames::layout::Framed;
+use kinds::IntegerKind;
 use numerals::Radix;
 use specifiers::Element;
 use specifiers::flags::Flags;
 ghost use mathlib.Core.Path.{_≡_};
 ghost use Prim.Native.Nat.{_^_, _≤_, _<_};
 ghost use lib.ListN.{length};
+ghost use Rattle.numerals.specs.Integers.{integerOf};
 ghost use Rattle.writing.specs.Writers.{Wrote, Put};
 ghost use Rattle.frames.specs.Frame.{frameOf};
 ghost use Rattle.frames.specs.Around.{FramePut};
 ghost use Rattle.numbers.specs.Numbers.{fill, paddedNumber, signMark, integerMark, ifAlternate, hexPrefix, numeralText, floatMark, finiteText};
-ghost use Rattle.numbers.specs.Numerals.{digitsText, signedNumeral, unsignedNumeral, numeralOf};
+ghost use Rattle.numbers.specs.Numerals.{digitsText, decimalNumeral, unsignedNumeral, numeralOf};
 
 // An integer as digits in a base, with its mark and prefix; with commas where grouped is set.
 pub struct Numeral {
@@ -159,13 +161,14 @@ fn put_numeral(out: &mut [u8], e: Element, n: Numeral) -> u64
 }
 
 // %d
-fn signed_numeral(flags: Flags, value: u64) -> Numeral
-    ensures { λ r. ⌜ r ≡ signedNumeral flags value ⌝ }
+fn decimal_numeral(flags: Flags, signed: bool, value: u64) -> Numeral
+    ensures { λ r. ⌜ r ≡ decimalNumeral flags (integerOf signed value) ⌝ }
 {
+    let n = numerals::integers::integer_of(signed, value);
     Numeral {
-        mark: integer_mark(flags, numerals::integers::is_negative(value)),
+        mark: integer_mark(flags, n.negative),
         prefix: Prefix::NoPrefix,
-        value: numerals::integers::magnitude(value),
+        value: n.magnitude,
         radix: Radix::Decimal,
         upper: false,
         grouped: flags.grouping,
@@ -186,32 +189,38 @@ fn unsigned_numeral(prefix: Prefix, radix: Radix, upper: bool, bits: u64) -> Num
     }
 }
 
-// The numeral of an integer of this width.
-fn numeral_of(e: Element, radix: Radix, width: u32, value: u64) -> Numeral
-    ensures { λ r. ⌜ r ≡ numeralOf e radix width value ⌝ }
+// The numeral of an integer of this kind.
+fn numeral_of(e: Element, radix: Radix, kind: IntegerKind, value: u64) -> Numeral
+    ensures { λ r. ⌜ r ≡ numeralOf e radix kind value ⌝ }
 {
     let flags = e.flags;
     match radix {
-        Radix::Decimal => signed_numeral(flags, value),
+        Radix::Decimal => decimal_numeral(flags, kind.signed, value),
         Radix::Octal => {
-            let bits = numerals::integers::low_bits(value, width);
+            let bits = numerals::integers::low_bits(value, kind.width);
             let prefix = if_alternate(flags, Prefix::Octal);
             unsigned_numeral(prefix, Radix::Octal, false, bits)
         }
         Radix::Hexadecimal => {
             let upper = e.upper;
-            let bits = numerals::integers::low_bits(value, width);
+            let bits = numerals::integers::low_bits(value, kind.width);
             let prefix = if_alternate(flags, hex_prefix(upper));
             unsigned_numeral(prefix, Radix::Hexadecimal, upper, bits)
         }
     }
 }
 
-// An integer of this width as a numeral: %d, %x and %o.
-pub fn format_numeral(out: &mut [u8], e: Element, radix: Radix, width: u32, value: u64) -> u64
-    ensures { λ r. ⌜ Put (now (out .entry)) (numeralText e radix width value) r (now (out .exit)) × (r < 2 ^ 42) ⌝ }
+// An integer of this kind as a numeral: %d, %x and %o.
+pub fn format_numeral(
+    out: &mut [u8],
+    e: Element,
+    radix: Radix,
+    kind: IntegerKind,
+    value: u64,
+) -> u64
+    ensures { λ r. ⌜ Put (now (out .entry)) (numeralText e radix kind value) r (now (out .exit)) × (r < 2 ^ 42) ⌝ }
 {
-    put_numeral(out, e, numeral_of(e, radix, width, value))
+    put_numeral(out, e, numeral_of(e, radix, kind, value))
 }
 
 // A finite float.

@@ -2,8 +2,9 @@
 use Prim.Native.Nat.{ℕ, suc, _-_, _^_, _<_}
 use mathlib.Core.Bool.{Bool, true, false}
 use lib.Dec.{ltb}
-use lib.IntN.{ℤ, pos, negsuc, negℤ}
+use lib.IntN.{ℤ, pos, negsuc, negℤ, natAbs}
 use Rattle.writing.specs.Choose.{choose}
+use Rattle.numerals.specs.declared.integers.SignMagnitude.{SignMagnitude}
 
 -- The integer whose two's complement bits at w places are x.
 unfoldable pub intOf : ℕ → ℕ → ℤ
@@ -13,7 +14,15 @@ abbrev pub isNegative : ℤ → Bool
 isNegative (pos n) = false
 isNegative (negsuc n) = true
 
--- The integer with a sign and a magnitude.
+-- The integer that 64 bits stand for: in two's complement where it is signed, else as they are.
+abbrev pub integerOf : Bool → ℕ → ℤ
+integerOf true x = intOf 64 x
+integerOf false x = pos x
+
+-- The sign and the magnitude of an integer, and the integer that has them.
+abbrev pub signMagnitude : ℤ → SignMagnitude
+signMagnitude z = record { negative = isNegative z; magnitude = natAbs z }
+
 abbrev pub signed : Bool → ℕ → ℤ
 signed false n = pos n
 signed true n = negℤ (pos n)

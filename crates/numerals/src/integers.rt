@@ -3,7 +3,13 @@
 ghost use mathlib.Core.Path.{_≡_};
 ghost use Prim.Native.Nat.{_%_, _^_};
 ghost use lib.IntN.{natAbs};
-ghost use Rattle.numerals.specs.Integers.{intOf, isNegative};
+ghost use Rattle.numerals.specs.Integers.{intOf, isNegative, integerOf, signMagnitude};
+
+// The sign and the magnitude of an integer.
+pub struct SignMagnitude {
+    pub negative: bool,
+    pub magnitude: u64,
+}
 
 // Whether the 64-bit integer with the two's complement bits x is negative.
 pub fn is_negative(x: u64) -> bool
@@ -21,6 +27,22 @@ pub fn magnitude(x: u64) -> u64
         return x;
     }
     std::num::wrapping_sub_u64(0, x)
+}
+
+// The integer that 64 bits stand for: in two's complement where it is signed, else as they are.
+pub fn integer_of(signed: bool, x: u64) -> SignMagnitude
+    ensures { λ r. ⌜ r ≡ signMagnitude (integerOf signed x) ⌝ }
+{
+    if signed {
+        return SignMagnitude {
+            negative: is_negative(x),
+            magnitude: magnitude(x),
+        };
+    }
+    SignMagnitude {
+        negative: false,
+        magnitude: x,
+    }
 }
 
 // The low bits of x: of a sign-extended value, its two's complement bits at that width.

@@ -12,7 +12,7 @@ use Rattle.parsing.specs.Covers.{PieceIn}
 use Rattle.parsing.specs.Listed.{Placed, placed}
 use Rattle.parsing.specs.declared.Piece.{Piece}
 use Rattle.parsing.specs.declared.Piece.the-variants.{Fixed, Byte, Element as AnElement}
-use Rattle.rows.specs.Row.{kindsOf, namedText, isRow}
+use Rattle.rows.specs.Row.{kindsOf, entryAt, namedText, isRow}
 use Rattle.rows.proofs.Rows.{AllBytes, kinds-length}
 use Rattle.columns.proofs.Columns.{reads-back}
 use Rattle.columns.proofs.Letters.{NamedBy}
@@ -37,7 +37,7 @@ module _ (s row : List ℕ) (kept : isRow row ≡ true) (bytes : AllBytes row) (
   piece-reads (Byte b) i e letter = tt
   piece-reads (AnElement x) i e letter = λ n.
       let few = kinds-length row kept in
-      reads-back row bytes x (record { kept = kept; first = i .0; last = omega (arith, i .1) }) (namedText row (x .argument)) e (getD s (to - 1) 0)
+      reads-back row bytes x (record { kept = kept; first = i .0; last = omega (arith, i .1) }) (namedText row (entryAt row (x .argument))) e (getD s (to - 1) 0)
       (letter x refl n)
 
 module _ (s row : List ℕ) (n k : ℕ) (ok : Accepts s row n k) (d e : List ℕ) where

@@ -2,7 +2,7 @@
 use mathlib.Core.Path.{_≡_, refl, sym, ap, subst, _∙_}
 use mathlib.Core.Bool.{Bool, true, false}
 use mathlib.Core.List.{List, [], _∷_, _++_, append-assoc, append-nil}
-use Prim.Native.Nat.{ℕ, _+_, _-_, _%_, _≤_, _<_}
+use Prim.Native.Nat.{ℕ, _+_, _-_, _≤_, _<_}
 use Prim.Native.Char.{code}
 use native.Mathlib.Omega.{arith}
 use lib.Dec.{eqb}
@@ -11,10 +11,10 @@ use lib.Seq.{getD-at}
 use Rattle.writing.specs.Choose.{choose}
 use Rattle.writing.specs.Text.{has}
 use Rattle.kinds.specs.Letters.{timeOf, smallOf, capitalOf}
-use Rattle.kinds.specs.Kinds.{kindOf, isKnown}
+use Rattle.kinds.specs.Kinds.{unmarked, isKnown}
 use Rattle.kinds.specs.declared.letters.ConversionType.{ConversionType}
-use Rattle.kinds.specs.declared.KindByte.{KindByte}
-use Rattle.kinds.specs.declared.KindByte.the-variants.{Known, Unknown}
+use Rattle.kinds.specs.declared.Kind.{Kind}
+use Rattle.kinds.specs.declared.Kind.the-variants as K
 use Rattle.kinds.specs.declared.letters.Letter.{Letter}
 use Rattle.kinds.specs.declared.letters.Letter.the-variants.{Conversion, NoConversion}
 use Rattle.kinds.specs.declared.letters.TimeLetter.{TimeLetter}
@@ -34,8 +34,8 @@ use Rattle.grammar.proofs.Letters.{known-kind}
 use Rattle.grammar.proofs.Listed.{IsPart, nth-part}
 use Rattle.grammar.proofs.Readings.{Made, parts-of, read-whole, reads-bytes}
 use Rattle.grammar.proofs.Steps.{KindsKnown}
-use Rattle.rows.specs.Entry.{isNull, entryOf}
-use Rattle.rows.specs.Row.{countOf, kindsOf, kindByteOf, valueOf, textArea, entryAt, isRow}
+use Rattle.rows.specs.Entry.{isEntry}
+use Rattle.rows.specs.Row.{countOf, kindsOf, kindByteOf, textArea, entryAt, isRow}
 use Rattle.rows.proofs.Rows.{kinds-length, kind-byte, entry}
 use Rattle.columns.proofs.Letters.{NamedBy}
 use Rattle.outcomes.specs.Demand.{isTime}
@@ -44,16 +44,23 @@ never : false ≡ true → ⊥
 never e = let z : _≡_ {A = ℕ} 0 1 = cc in omega arith
 
 -- every entry of a row has a kind
-entry-known : (b : KindByte) (null : Bool) (text : List ℕ) (v : ℕ) → entryOf b null text v ≡ true → isKnown b ≡ true
-entry-known (Known k) null text v e = refl
-entry-known Unknown null text v e = absurd (never e)
+entry-known : (text : List ℕ) (k : Kind) (null : Bool) (v : ℕ) → isEntry text (record { kind = k; null = null; value = v }) ≡ true → isKnown k ≡ true
+unfolding isEntry
+entry-known text (K.Integer k) null v e = refl
+entry-known text K.Float64 null v e = refl
+entry-known text K.Boolean null v e = refl
+entry-known text K.Text null v e = refl
+entry-known text K.Timestamp null v e = refl
+entry-known text K.NoKind true v e = absurd (never e)
+entry-known text K.NoKind false v e = absurd (never e)
 
 pub row-kinds : (row : List ℕ) → isRow row ≡ true → KindsKnown (kindsOf row)
 unfolding entryAt
 row-kinds row kept a h i =
     let few : a ≤ countOf row = omega (arith, kinds-length row kept) in
-    let q = entry-known (kindOf (kindByteOf row a % 128)) (isNull (kindByteOf row a)) (textArea row) (valueOf row a) (entry row kept a h few) in
-    ap (λ (k : ℕ). has kinds (k % 128)) (kind-byte row a h few) ∙ known-kind (kindByteOf row a % 128) q
+    let x = entryAt row a in
+    let q = entry-known (textArea row) (x .kind) (x .null) (x .value) (entry row kept a h few) in
+    ap (λ (k : ℕ). has kinds (unmarked k)) (kind-byte row a h few) ∙ known-kind (unmarked (kindByteOf row a)) q
 
 -- a letter of one byte, read; what takes two is t or T
 module _ (c : ConversionType) (u : Bool) where

@@ -23,10 +23,10 @@ use Rattle.grammar.specs.Pieces as Q
 use Rattle.grammar.specs.Readings.{Whole}
 use Rattle.grammar.proofs.Listed.{lists-length, part-listed}
 use Rattle.grammar.proofs.Readings.{read-whole, reads-bytes, parts-of}
-use Rattle.rows.specs.Row.{namedText, kindByteOf, valueOf, kindsOf, isRow}
-use Rattle.elements.specs.Texts.{elementText, textOf}
+use Rattle.rows.specs.Row.{entryAt, kindsOf, isRow}
+use Rattle.elements.specs.Texts.{textOf}
 use Rattle.columns.specs.Columns.{ReadsBack}
-use Rattle.elements.specs.PieceTexts.{shownPiece, pieceText}
+use Rattle.elements.specs.PieceTexts.{shownEntry, shownPiece, pieceText}
 use Rattle.outcomes.specs.Demand.{cutOut, pieceOf, isTime, DenotesValue, Demand3}
 use Rattle.outcomes.specs.PartTexts.{PartText, PartTexts, nothing, one, PartDenotes}
 use Rattle.outcomes.specs.Printed.{textsOf, texts, printed}
@@ -65,7 +65,7 @@ module _ (s row : List ℕ) where
   part-text before rest (Q.is-element {e} {w} is) q = record {
     holds = e;
     is = is;
-    shown = ap (λ (a : ℕ). textOf (elementText e (kindByteOf row a) (namedText row a) (valueOf row a))) (is .argument);
+    shown = ap (λ (a : ℕ). textOf (shownEntry row e (entryAt row a))) (is .argument);
   }
 
   lists-texts : {ps : List Placed} {parts : List Part} (rest : List ℕ) → Lists ps parts → s ≡ bytesBefore parts ++ rest
@@ -99,8 +99,8 @@ part-denotes s row to bytes (Q.is-text e f) d = tt
 part-denotes s row to bytes (Q.is-percent e f) d = tt
 part-denotes s row to bytes (Q.is-newline e) d = tt
 part-denotes s row to bytes (Q.is-element {e} {w} is) d = λ n.
-    subst (λ (p : NumericParam). ReadsBack (getD s (to - 1) 0) (kindByteOf row (w .argument)) (valueOf row (w .argument)) p bytes) (is .precision)
-    (subst (λ (a : ℕ). ReadsBack (getD s (to - 1) 0) (kindByteOf row a) (valueOf row a) (e .precision) bytes) (is .argument)
+    subst (λ (p : NumericParam). ReadsBack (getD s (to - 1) 0) (entryAt row (w .argument)) p bytes) (is .precision)
+    (subst (λ (a : ℕ). ReadsBack (getD s (to - 1) 0) (entryAt row a) (e .precision) bytes) (is .argument)
     (d (no-time (e .conversion) (w .letter) (is .conversion) n)))
 
 -- Demand 3 of a part p of a format, wherever it stands: as many ends stand before its own as parts, and of what they cut out holds what `PartDenotes`

@@ -10,7 +10,7 @@ use Rattle.parsing.specs.Covers.{Covers}
 use Rattle.parsing.specs.Listed.{Placed, placed}
 use Rattle.parsing.specs.declared.Piece.{Piece}
 use Rattle.parsing.specs.declared.Piece.the-variants.{Fixed, Byte, Element as AnElement}
-use Rattle.rows.specs.Row.{kindsOf, kindByteOf, valueOf}
+use Rattle.rows.specs.Row.{kindsOf, entryAt}
 use Rattle.elements.specs.PieceTexts.{pieceText}
 use Rattle.columns.specs.Columns.{ReadsBack}
 use Rattle.outcomes.specs.Printed.{texts, joined}
@@ -47,7 +47,7 @@ abbrev pub DenotesValue : List ℕ → List ℕ → ℕ → Piece → List ℕ �
 DenotesValue s row to (Fixed begin len) bytes = Unit {0}
 DenotesValue s row to (Byte b) bytes = Unit {0}
 DenotesValue s row to (AnElement e) bytes =
-    isTime (e .conversion) ≡ false → ReadsBack (getD s (to - 1) 0) (kindByteOf row (e .argument)) (valueOf row (e .argument)) (e .precision) bytes
+    isTime (e .conversion) ≡ false → ReadsBack (getD s (to - 1) 0) (entryAt row (e .argument)) (e .precision) bytes
 
 -- Of a format s and a row, the length n and count k returned, and the output and ends left.
 pub record Demand3 (s row : List ℕ) (n k : ℕ) (out ends : List ℕ) : Type 0 where

@@ -9,15 +9,16 @@ use Rattle.specifiers.specs.declared.Element.{Element}
 use Rattle.grammar.specs.Runs.{begins}
 use Rattle.grammar.specs.Parts.{Written, Part, text, percent, newline, element}
 use Rattle.grammar.specs.Pieces.{precisionRead, ElementIs}
-use Rattle.rows.specs.Row.{namedText, kindByteOf, valueOf}
-use Rattle.elements.specs.Texts.{elementText, textOf}
+use Rattle.rows.specs.Row.{entryAt}
+use Rattle.elements.specs.Texts.{textOf}
+use Rattle.elements.specs.PieceTexts.{shownEntry}
 use Rattle.columns.specs.Columns.{ReadsBack}
 
 -- An element as it is written prints the row's value under the argument that it takes.
 pub record ElementText (row : List ℕ) (w : Written) (t : List ℕ) : Type 0 where
   pub holds : Element
   pub is : ElementIs holds w
-  pub shown : t ≡ textOf (elementText holds (kindByteOf row (w .argument)) (namedText row (w .argument)) (valueOf row (w .argument)))
+  pub shown : t ≡ textOf (shownEntry row holds (entryAt row (w .argument)))
 
 -- Text is printed as it stands; "`%%` is a piece holding one `%`, `%n` a piece holding byte 10".
 abbrev pub PartText : List ℕ → Part → List ℕ → Type 0
@@ -39,4 +40,4 @@ PartDenotes s row to percent bytes = Unit {0}
 PartDenotes s row to newline bytes = Unit {0}
 PartDenotes s row to (element w) bytes =
     begins (has (ascii "tT")) (w .letter) ≡ false
-    → ReadsBack (getD s (to - 1) 0) (kindByteOf row (w .argument)) (valueOf row (w .argument)) (precisionRead (w .precision)) bytes
+    → ReadsBack (getD s (to - 1) 0) (entryAt row (w .argument)) (precisionRead (w .precision)) bytes

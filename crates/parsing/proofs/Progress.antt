@@ -8,6 +8,7 @@ use native.Mathlib.Omega.{arith}
 use lib.Dec.{eqb}
 use lib.ListN.{length, getD, drop, length-drop}
 use Rattle.writing.proofs.Choose.{by-test}
+use Rattle.kinds.specs.Kinds.{kindIn}
 use Rattle.specifiers.specs.Specifier.{beginsWith, specifierAt}
 use Rattle.specifiers.specs.declared.Specifier.{Specifier}
 use Rattle.specifiers.specs.declared.Specifier.the-variants as S
@@ -49,7 +50,7 @@ text-some (b ∷ l) h e = simp e (omega arith)
 module _ (s ks : List ℕ) (c : Cursor) where
   element-in : (x : Index) → NamedIn (length ks) (c .at + 1) x → StepIn (length s) c (afterIndex s ks x)
   element-in (I.Named a next count) h =
-      read (specifierAt s next a (getD ks (a - 1) 0)) (specifier-in s next a (getD ks (a - 1) 0)) (h .2)
+      read (specifierAt s next a (kindIn (getD ks (a - 1) 0))) (specifier-in s next a (kindIn (getD ks (a - 1) 0))) (h .2)
     where
       read : (t : Specifier) → SpecifierIn (length s) next t → c .at + 1 ≤ next → StepIn (length s) c (afterSpecifier a count t)
       read (S.Read e n) i k = record { forward = omega arith; inside = i .1 }

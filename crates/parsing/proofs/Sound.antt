@@ -9,7 +9,8 @@ use lib.ListN.{length, getD, drop}
 use borrow.Author.Tests.{ltb-true}
 use Rattle.refusals.specs.Limits.{mostPieces}
 use Rattle.writing.proofs.Choose.{by-test}
-use Rattle.kinds.specs.Kinds.{fitsKind}
+use Rattle.kinds.specs.Kinds.{kindIn, fits}
+use Rattle.kinds.specs.declared.Kind.{Kind}
 use Rattle.specifiers.specs.Specifier.{beginsWith, letterAt, afterLetter, partsAt, afterParts, specifierAt}
 use Rattle.specifiers.specs.declared.LetterTaken.{LetterTaken}
 use Rattle.specifiers.specs.declared.LetterTaken.the-variants as L
@@ -36,9 +37,9 @@ abbrev Of : ℕ → Specifier → Type 0
 Of a (S.Read e at) = e .argument ≡ a
 Of a (S.Refused number) = Unit {0}
 
-module _ (s : List ℕ) (a k : ℕ) where
+module _ (s : List ℕ) (a : ℕ) (k : Kind) where
   of-letter : (x : Parts) (t : LetterTaken) → Of a (afterLetter a k x t)
-  of-letter x (L.Read c u at) = by-test (Of a) (fitsKind c k) _ _ (λ _. refl) (λ _. tt)
+  of-letter x (L.Read c u at) = by-test (Of a) (fits c k) _ _ (λ _. refl) (λ _. tt)
   of-letter x (L.Refused n) = tt
 
   of-parts : (t : PartsTaken) → Of a (afterParts s a k t)
@@ -56,7 +57,7 @@ Sound s ks (Refused number) = Unit {0}
 module _ (s ks : List ℕ) (c : Cursor) where
   element-sound : (x : Index) → NamedIn (length ks) (c .at + 1) x → Sound s ks (afterIndex s ks x)
   element-sound (I.Named a next count) h =
-      read (specifierAt s next a (getD ks (a - 1) 0)) (specifier-of s a (getD ks (a - 1) 0) next) (h .0) (h .1)
+      read (specifierAt s next a (kindIn (getD ks (a - 1) 0))) (specifier-of s a (kindIn (getD ks (a - 1) 0)) next) (h .0) (h .1)
     where
       read : (t : Specifier) → Of a t → 1 ≤ a → a ≤ length ks → Sound s ks (afterSpecifier a count t)
       read (S.Read e n) q l m = λ _. (omega arith, omega arith)

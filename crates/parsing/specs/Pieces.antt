@@ -4,6 +4,7 @@ use Prim.Native.Char.{code}
 use mathlib.Core.List.{List}
 use lib.ListN.{length, getD, drop}
 use Rattle.writing.specs.Choose.{choose}
+use Rattle.kinds.specs.Kinds.{kindIn}
 use Rattle.specifiers.specs.Specifier.{beginsWith, specifierAt}
 use Rattle.specifiers.specs.declared.Specifier.{Specifier}
 use Rattle.specifiers.specs.declared.Specifier.the-variants as S
@@ -36,7 +37,7 @@ afterSpecifier a count (S.Read e at) = Found (AnElement e) (record { at = at; co
 afterSpecifier a count (S.Refused number) = Refused number
 
 abbrev pub afterIndex : List ℕ → List ℕ → Index → Step
-afterIndex s ks (I.Named a next count) = afterSpecifier a count (specifierAt s next a (getD ks (a - 1) 0))
+afterIndex s ks (I.Named a next count) = afterSpecifier a count (specifierAt s next a (kindIn (getD ks (a - 1) 0)))
 afterIndex s ks (I.Refused number) = Refused number
 
 unfoldable pub elementAt : List ℕ → List ℕ → Cursor → Step

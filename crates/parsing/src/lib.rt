@@ -97,7 +97,8 @@ fn take_element(fmt: &[u8], kinds: &[u8], c: Cursor) -> Step
     else {
         return index_refusal(index);
     };
-    let read = specifiers::take_conversion_specifier(fmt, next, argument, kinds[argument - 1]);
+    let kind = kinds::kind_in(kinds[argument - 1]);
+    let read = specifiers::take_conversion_specifier(fmt, next, argument, kind);
     let Specifier::Read { element, next: end } = read else {
         return specifier_refusal(read);
     };

@@ -1,20 +1,19 @@
 -- The entries of a row, one by one. Assumes nothing.
-use Prim.Native.Nat.{ℕ, suc, _+_, _-_, _*_, _%_, _≤_, _<_}
+use Prim.Native.Nat.{ℕ, suc, _+_, _-_, _*_, _≤_, _<_}
 use mathlib.Core.Path.{_≡_, ap}
 use mathlib.Core.Bool.{true, _&&_}
 use mathlib.Core.List.{List}
 use native.Mathlib.Omega.{arith}
 use lib.ListN.{length, getD, take, drop}
 use borrow.Rule.Slice.PartAt.{part-to-end}
-use Rattle.kinds.specs.Kinds.{kindOf}
 use Rattle.words.specs.LittleEndian.{wordAt}
-use Rattle.rows.specs.Entry.{isNull, entryOf}
-use Rattle.rows.specs.Row.{countOf, entryAt, entriesFrom}
+use Rattle.rows.specs.Entry.{entryOf, isEntry}
+use Rattle.rows.specs.Row.{countOf, textArea, entryAt, entriesFrom}
 
 -- The entry with the index i + 1, by the places that the code reads.
 pub entry-read : (row : List ℕ) (n i v : ℕ) → n ≡ countOf row → v ≡ wordAt 8 row (6 + n + 8 * i)
-    → entryOf (kindOf (getD row (6 + i) 0 % 128)) (isNull (getD row (6 + i) 0)) (take (length row - (6 + 9 * n)) (drop (6 + 9 * n) row)) v
-    ≡ entryAt row (i + 1)
+    → isEntry (take (length row - (6 + 9 * n)) (drop (6 + 9 * n) row)) (entryOf (getD row (6 + i) 0) v)
+    ≡ isEntry (textArea row) (entryAt row (i + 1))
 unfolding entryAt
 entry-read row n i v e f =
     let p : 5 + (i + 1) ≡ 6 + i = omega arith in
@@ -22,7 +21,7 @@ entry-read row n i v e f =
     simp (part-to-end row (6 + 9 * n), f, p, q, ← e)
 
 pub entries-next : (row : List ℕ) (n i : ℕ) → i < n
-    → entriesFrom (n - i) row (i + 1) ≡ (entryAt row (i + 1) && entriesFrom (n - (i + 1)) row (i + 1 + 1))
+    → entriesFrom (n - i) row (i + 1) ≡ (isEntry (textArea row) (entryAt row (i + 1)) && entriesFrom (n - (i + 1)) row (i + 1 + 1))
 unfolding entriesFrom
 entries-next row n i h =
     let e : n - i ≡ suc (n - (i + 1)) = omega arith in

@@ -1,4 +1,4 @@
 pub mod Widths
 mod EntryList
 pub mod Rows
-mod Arguments
+pub mod Arguments

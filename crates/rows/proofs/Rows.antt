@@ -12,6 +12,7 @@ use borrow.Author.Tests.{leb-true, eqb-true}
 use borrow.Rule.Slice.PartAt.{part-to-end}
 use Rattle.refusals.specs.Limits.{mostValues, mostText}
 use Rattle.words.specs.LittleEndian.{littleEndian, wordAt}
+use Rattle.rows.specs.Entry.{isEntry}
 use Rattle.rows.specs.Row.{countOf, textSize, kindsOf, textArea, kindByteOf, valueOf, entryAt, entriesFrom, isRow}
 use Rattle.rows.specs.Arguments.{rowOf}
 use Rattle.rows.specs.declared.RowRead.{RowRead}
@@ -20,13 +21,14 @@ use Rattle.writing.specs.Choose.{choose}
 use Rattle.writing.proofs.Choose.{both}
 
 -- one of k entries from the argument a on
-one-of : (k : ℕ) (row : List ℕ) (a : ℕ) → entriesFrom k row a ≡ true → (i : ℕ) → i < k → entryAt row (a + i) ≡ true
+one-of : (k : ℕ) (row : List ℕ) (a : ℕ) → entriesFrom k row a ≡ true → (i : ℕ) → i < k → isEntry (textArea row) (entryAt row (a + i)) ≡ true
 unfolding entriesFrom
 one-of zero row a e i h = absurd (omega arith)
-one-of (suc k) row a e zero h = simp add-zero (both (entryAt row a) (entriesFrom k row (a + 1)) e .0)
+one-of (suc k) row a e zero h = simp add-zero (both (isEntry (textArea row) (entryAt row a)) (entriesFrom k row (a + 1)) e .0)
 one-of (suc k) row a e (suc i) h =
     let n : a + 1 + i ≡ a + suc i = omega arith in
-    ap (λ (m : ℕ). entryAt row m) (sym n) ∙ one-of k row (a + 1) (both (entryAt row a) (entriesFrom k row (a + 1)) e .1) i (omega arith)
+    ap (λ (m : ℕ). isEntry (textArea row) (entryAt row m)) (sym n)
+    ∙ one-of k row (a + 1) (both (isEntry (textArea row) (entryAt row a)) (entriesFrom k row (a + 1)) e .1) i (omega arith)
 
 -- What the tests of a layout say.
 record Layout (row : List ℕ) : Type 0 where
@@ -94,10 +96,10 @@ module _ (row : List ℕ) (kept : isRow row ≡ true) where
       let w = row-shape .0 in
       simp length-drop (omega arith)
 
-  pub entry : (a : ℕ) → 1 ≤ a → a ≤ countOf row → entryAt row a ≡ true
+  pub entry : (a : ℕ) → 1 ≤ a → a ≤ countOf row → isEntry (textArea row) (entryAt row a) ≡ true
   entry a h k =
       let e : 1 + (a - 1) ≡ a = omega arith in
-      ap (λ (i : ℕ). entryAt row i) (sym e) ∙ one-of (countOf row) row 1 (layout row kept .entries) (a - 1) (omega arith)
+      ap (λ (i : ℕ). isEntry (textArea row) (entryAt row i)) (sym e) ∙ one-of (countOf row) row 1 (layout row kept .entries) (a - 1) (omega arith)
 
 -- What the answer of reading a row says.
 abbrev Answered : List ℕ → RowRead → Bool → Type 0

@@ -1,11 +1,13 @@
 -- What the functions of this crate require and answer. No contract of an entry speaks of these.
-use Prim.Native.Nat.{ℕ, _%_, _≤_}
+use Prim.Native.Nat.{ℕ, _≤_}
 use mathlib.Core.Path.{_≡_}
-use mathlib.Core.Bool.{Bool, true}
+use mathlib.Core.Bool.{true}
 use mathlib.Core.List.{List, []}
-use lib.Dec.{eqb}
 use Rattle.writing.specs.Choose.{choose}
-use Rattle.rows.specs.Row.{countOf, kindByteOf, namedText, isRow}
+use Rattle.kinds.specs.Kinds.{isText}
+use Rattle.rows.specs.Entry.{isEntry}
+use Rattle.rows.specs.Row.{countOf, textArea, namedText, isRow}
+use Rattle.rows.specs.declared.entries.Entry.{Entry}
 use Rattle.rows.specs.declared.RowRead.{RowRead}
 use Rattle.rows.specs.declared.RowRead.the-variants.{Row, Broken}
 
@@ -19,9 +21,11 @@ pub record Argument (row : List ℕ) (a : ℕ) : Type 0 where
 unfoldable pub rowOf : List ℕ → RowRead
 rowOf row = choose (isRow row) (λ _. Row (countOf row)) (λ _. Broken)
 
--- What is handed out of a row: the text of an argument of kind 7, and nothing of any other, which names none.
-abbrev pub isText : ℕ → Bool
-isText k = eqb (k % 128) 7
+-- An entry that stands in a row that keeps its layout.
+pub record InRow (row : List ℕ) (e : Entry) : Type 0 where
+  pub kept : isRow row ≡ true
+  pub is : isEntry (textArea row) e ≡ true
 
-unfoldable pub handedOut : List ℕ → ℕ → List ℕ
-handedOut row a = choose (isText (kindByteOf row a)) (λ _. namedText row a) (λ _. [])
+-- What is handed out of a row: the text of an entry of kind 7, and nothing of any other, which names none.
+unfoldable pub handedOut : List ℕ → Entry → List ℕ
+handedOut row e = choose (isText (e .kind)) (λ _. namedText row e) (λ _. [])

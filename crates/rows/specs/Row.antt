@@ -1,14 +1,14 @@
 -- The row of values. 01: "Sizes first: n, 2 bytes, 0 to 64; t, 4 bytes, 0 to 32,768. Then two parallel arrays: n kind bytes and n values of 8
 -- bytes. Then t bytes of text. All little-endian, length exactly 6 + 9n + t."
-use Prim.Native.Nat.{ℕ, zero, suc, _+_, _-_, _*_, _%_}
+use Prim.Native.Nat.{ℕ, zero, suc, _+_, _-_, _*_}
 use mathlib.Core.Bool.{Bool, true, _&&_}
 use mathlib.Core.List.{List}
 use lib.Dec.{leb, eqb}
 use lib.ListN.{length, getD, take, drop}
 use Rattle.refusals.specs.Limits.{mostValues, mostText}
 use Rattle.words.specs.LittleEndian.{wordAt}
-use Rattle.kinds.specs.Kinds.{kindOf}
-use Rattle.rows.specs.Entry.{isNull, partOf, entryOf}
+use Rattle.rows.specs.Entry.{entryOf, partOf, isEntry}
+use Rattle.rows.specs.declared.entries.Entry.{Entry}
 
 -- n and t
 abbrev pub countOf : List ℕ → ℕ
@@ -30,18 +30,18 @@ kindByteOf row a = getD row (5 + a) 0
 abbrev pub valueOf : List ℕ → ℕ → ℕ
 valueOf row a = wordAt 8 row (6 + countOf row + 8 * (a - 1))
 
--- The text that the argument a names, where it is of kind 7; of another kind it is not looked at.
-unfoldable pub namedText : List ℕ → ℕ → List ℕ
-namedText row a = partOf (textArea row) (valueOf row a)
-
 -- The entry of the argument a.
-unfoldable pub entryAt : List ℕ → ℕ → Bool
-entryAt row a = entryOf (kindOf (kindByteOf row a % 128)) (isNull (kindByteOf row a)) (textArea row) (valueOf row a)
+unfoldable pub entryAt : List ℕ → ℕ → Entry
+entryAt row a = entryOf (kindByteOf row a) (valueOf row a)
 
--- The entries from the argument a on, k of them.
+-- The text that an entry of kind 7 names; of another kind it is not looked at.
+unfoldable pub namedText : List ℕ → Entry → List ℕ
+namedText row e = partOf (textArea row) (e .value)
+
+-- That k entries from the argument a on may stand in the row.
 unfoldable pub entriesFrom : ℕ → List ℕ → ℕ → Bool
 entriesFrom zero row a = true
-entriesFrom (suc k) row a = entryAt row a && entriesFrom k row (a + 1)
+entriesFrom (suc k) row a = isEntry (textArea row) (entryAt row a) && entriesFrom k row (a + 1)
 
 -- That a row keeps its layout; a row that does not is 14.
 unfoldable pub isRow : List ℕ → Bool

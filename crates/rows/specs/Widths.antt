@@ -5,8 +5,9 @@ use Rattle.kinds.specs.declared.Kind.the-variants as K
 
 -- An integer kind has a width from 1 to 64.
 abbrev pub HasWidth : Kind → Type 0
-HasWidth (K.Signed w) = (1 ≤ w) × (w ≤ 64)
+HasWidth (K.Integer k) = (1 ≤ k .width) × (k .width ≤ 64)
 HasWidth K.Float64 = Unit {0}
 HasWidth K.Boolean = Unit {0}
 HasWidth K.Text = Unit {0}
 HasWidth K.Timestamp = Unit {0}
+HasWidth K.NoKind = Unit {0}

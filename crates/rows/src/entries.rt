@@ -1,23 +1,61 @@
 // One entry of a row: whether a value is one of its kind, and may be null.
+use kinds::IntegerKind;
 use kinds::Kind;
-use kinds::KindByte;
 ghost use mathlib.Core.Path.{_≡_};
-ghost use mathlib.Core.List.{[]};
-ghost use Prim.Native.Nat.{_%_, _≤_};
-ghost use Rattle.kinds.specs.Kinds.{kindOf};
-ghost use Rattle.rows.specs.Entry.{isNull, holds, canBeNull, entryOf};
+ghost use mathlib.Core.Bool.{true, false};
+ghost use Prim.Native.Nat.{_≤_};
+ghost use Rattle.rows.specs.Entry.{entryOf, within, holds, canBeNull, isEntry};
 ghost use Rattle.rows.specs.Widths.{HasWidth};
+
+// What a row has for one of its arguments.
+pub struct Entry {
+    pub kind: Kind,
+    pub null: bool,
+    pub value: u64,
+}
+
+// The entry of a kind byte and a value.
+pub(crate) fn entry_of(byte: u8, value: u64) -> Entry
+    ensures { λ r. ⌜ r ≡ entryOf byte value ⌝ }
+{
+    Entry {
+        kind: kinds::kind_in(byte),
+        null: kinds::is_null(byte),
+        value: value,
+    }
+}
 
 // Whether a value is a signed integer of this width, sign-extended to 64 bits.
 fn is_signed(width: u32, value: u64) -> bool
     requires { ⌜ (1 ≤ width) × (width ≤ 64) ⌝ }
-    ensures { λ r. ⌜ r ≡ holds (Kind.Signed width) [] value ⌝ }
+    ensures { λ r. ⌜ r ≡ within (record { width = width; signed = true }) value ⌝ }
 {
     let half = 1u64 << (width - 1);
     if value < half {
         return true;
     }
     std::num::wrapping_sub_u64(0, half) <= value
+}
+
+// Whether a value is an unsigned integer of this width.
+fn is_unsigned(width: u32, value: u64) -> bool
+    requires { ⌜ (1 ≤ width) × (width ≤ 64) ⌝ }
+    ensures { λ r. ⌜ r ≡ within (record { width = width; signed = false }) value ⌝ }
+{
+    if width < 64 {
+        return value < 1u64 << width;
+    }
+    true
+}
+
+fn is_within(kind: IntegerKind, value: u64) -> bool
+    requires { ⌜ HasWidth (Kind.Integer kind) ⌝ }
+    ensures { λ r. ⌜ r ≡ within kind value ⌝ }
+{
+    if kind.signed {
+        return is_signed(kind.width, value);
+    }
+    is_unsigned(kind.width, value)
 }
 
 // Whether a value names a part of the text area that is well-formed UTF-8.
@@ -38,11 +76,12 @@ fn is_value(kind: Kind, text: &[u8], value: u64) -> bool
     ensures { λ r. ⌜ r ≡ holds kind (now (text .entry)) value ⌝ }
 {
     match kind {
-        Kind::Signed(width) => is_signed(width, value),
+        Kind::Integer(k) => is_within(k, value),
         Kind::Float64 => true,
         Kind::Boolean => value <= 1,
         Kind::Text => is_part(text, value),
         Kind::Timestamp => true,
+        Kind::NoKind => false,
     }
 }
 
@@ -50,26 +89,26 @@ fn can_be_null(kind: Kind) -> bool
     ensures { λ r. ⌜ r ≡ canBeNull kind ⌝ }
 {
     match kind {
-        Kind::Signed(_) => true,
+        Kind::Integer(_) => true,
         Kind::Float64 => false,
         Kind::Boolean => true,
         Kind::Text => false,
         Kind::Timestamp => false,
+        Kind::NoKind => false,
     }
 }
 
-// Whether a kind byte and a value make an entry.
-pub(crate) fn is_entry(byte: u8, text: &[u8], value: u64) -> bool
-    ensures { λ r. ⌜ r ≡ entryOf (kindOf (byte % 128)) (isNull byte) (now (text .entry)) value ⌝ }
+// Whether an entry may stand in a row with this text area.
+pub(crate) fn is_entry(e: Entry, text: &[u8]) -> bool
+    requires { ⌜ HasWidth (e .kind) ⌝ }
+    ensures { λ r. ⌜ r ≡ isEntry (now (text .entry)) e ⌝ }
 {
-    let KindByte::Known(kind) = kinds::kind_of(byte % 128) else {
+    let kind = e.kind;
+    if e.null {
+        if e.value == 0 {
+            return can_be_null(kind);
+        }
         return false;
-    };
-    if byte < 128 {
-        return is_value(kind, text, value);
     }
-    if value == 0 {
-        return can_be_null(kind);
-    }
-    false
+    is_value(kind, text, e.value)
 }

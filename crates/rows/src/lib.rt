@@ -1,11 +1,12 @@
-// The row of values: its layout tested, and the kind and value of each argument.
+// The row of values: its layout tested, and the entry of each argument.
 pub mod entries;
 
+use entries::Entry;
 ghost use mathlib.Core.Path.{_≡_};
 ghost use Prim.Native.Nat.{_+_, _*_, _^_, _≤_, _<_};
 ghost use lib.ListN.{length};
-ghost use Rattle.rows.specs.Row.{countOf, kindByteOf, valueOf, entriesFrom};
-ghost use Rattle.rows.specs.Arguments.{Argument, rowOf, isText, handedOut};
+ghost use Rattle.rows.specs.Row.{countOf, entryAt, entriesFrom};
+ghost use Rattle.rows.specs.Arguments.{Argument, InRow, rowOf, handedOut};
 
 // How many arguments a row says it has.
 fn count_of(row: &[u8]) -> usize
@@ -24,7 +25,8 @@ fn are_entries(row: &[u8], n: usize) -> bool
     let mut i = 0;
     while i < n {
         let value = words::eight(row, 6 + n + 8 * i);
-        if !entries::is_entry(row[6 + i], &row[text..], value) {
+        let e = entries::entry_of(row[6 + i], value);
+        if !entries::is_entry(e, &row[text..]) {
             return false;
         }
         i = i + 1;
@@ -62,37 +64,24 @@ pub fn read_row(row: &[u8]) -> RowRead
     RowRead::Broken
 }
 
-// The kind byte of an argument.
-pub fn kind_byte(row: &[u8], argument: usize) -> u8
+// The entry of an argument.
+pub fn entry(row: &[u8], argument: usize) -> Entry
     requires { ⌜ Argument (now row) argument ⌝ }
-    ensures { λ r. ⌜ r ≡ kindByteOf (now (row .entry)) argument ⌝ }
-{
-    row[5 + argument]
-}
-
-// The value of an argument.
-pub fn value_of(row: &[u8], argument: usize) -> u64
-    requires { ⌜ Argument (now row) argument ⌝ }
-    ensures { λ r. ⌜ r ≡ valueOf (now (row .entry)) argument ⌝ }
+    ensures { λ r. ⌜ r ≡ entryAt (now (row .entry)) argument ⌝ }
 {
     let count = count_of(row);
-    words::eight(row, 6 + count + 8 * (argument - 1))
+    let value = words::eight(row, 6 + count + 8 * (argument - 1));
+    entries::entry_of(row[5 + argument], value)
 }
 
-// Whether a kind byte is that of a text.
-fn is_text(byte: u8) -> bool
-    ensures { λ r. ⌜ r ≡ isText byte ⌝ }
+// The text that an entry of kind 7 names; any other kind names none.
+pub fn named_text<'a>(row: &'a [u8], e: Entry) -> &'a [u8]
+    requires { ⌜ InRow (now row) e ⌝ }
+    ensures { λ r. ⌜ (now r ≡ handedOut (now (row .entry)) e) × (length (now r) < 2 ^ 32) ⌝ }
 {
-    byte % 128 == 7
-}
-
-// The text that an argument of kind 7 names; any other kind names none.
-pub fn named_text<'a>(row: &'a [u8], argument: usize) -> &'a [u8]
-    requires { ⌜ Argument (now row) argument ⌝ }
-    ensures { λ r. ⌜ (now r ≡ handedOut (now (row .entry)) argument) × (length (now r) < 2 ^ 32) ⌝ }
-{
-    if is_text(kind_byte(row, argument)) {
-        let value = value_of(row, argument);
+    let kind = e.kind;
+    let value = e.value;
+    if kinds::is_text(kind) {
         let start = 6 + 9 * count_of(row) + (value % 4294967296) as usize;
         let len = (value / 4294967296) as usize;
         return &row[start..start + len];

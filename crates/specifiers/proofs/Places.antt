@@ -18,7 +18,8 @@ use Rattle.specifiers.specs.declared.params.Taken.{Taken}
 use Rattle.specifiers.specs.declared.params.Taken.the-variants.{Param, TooLarge}
 use Rattle.specifiers.proofs.Numbers.{NumberIn, number-in}
 use Rattle.kinds.specs.Letters.{timeOf, smallOf, capitalOf}
-use Rattle.kinds.specs.Kinds.{fitsKind}
+use Rattle.kinds.specs.Kinds.{fits}
+use Rattle.kinds.specs.declared.Kind.{Kind}
 use Rattle.kinds.specs.declared.letters.Letter.{Letter}
 use Rattle.kinds.specs.declared.letters.Letter.the-variants.{Conversion, NoConversion}
 use Rattle.kinds.specs.declared.letters.TimeLetter.{TimeLetter}
@@ -138,11 +139,11 @@ module _ (s : List ℕ) (at : ℕ) where
   unfolding partsAt
   parts-on = from-flags (flagsAt s at) (flags-on s at)
 
-  module _ (a k : ℕ) where
+  module _ (a : ℕ) (k : Kind) where
     from-letter : (x : Parts) (l : ℕ) → at ≤ l → (t : LetterTaken) → LetterIn (length s) l t
         → SpecifierIn (length s) at (afterLetter a k x t)
     from-letter x l h (L.Read c u n) i =
-        by-test (SpecifierIn (length s) at) (fitsKind c k) _ _ (λ _. (omega arith, omega arith)) (λ _. tt)
+        by-test (SpecifierIn (length s) at) (fits c k) _ _ (λ _. (omega arith, omega arith)) (λ _. tt)
     from-letter x l h (L.Refused n) i = tt
 
     from-parts : (t : PartsTaken) → PartsOn at t → SpecifierIn (length s) at (afterParts s a k t)

@@ -12,7 +12,8 @@ use Rattle.numerals.specs.declared.NumericParam.the-variants.{FromArgument}
 use Rattle.specifiers.specs.declared.params.Taken.{Taken}
 use Rattle.specifiers.specs.declared.params.Taken.the-variants.{Param, TooLarge}
 use Rattle.kinds.specs.Letters.{timeOf, smallOf, capitalOf}
-use Rattle.kinds.specs.Kinds.{fitsKind}
+use Rattle.kinds.specs.Kinds.{fits}
+use Rattle.kinds.specs.declared.Kind.{Kind}
 use Rattle.kinds.specs.declared.letters.ConversionType.{ConversionType}
 use Rattle.kinds.specs.declared.letters.ConversionType.the-variants.{Time}
 use Rattle.kinds.specs.declared.letters.Letter.{Letter}
@@ -85,20 +86,20 @@ afterFlags s (F.Refused number) = P.Refused number
 unfoldable pub partsAt : List ℕ → ℕ → PartsTaken
 partsAt s at = afterFlags s (flagsAt s at)
 
--- The element of the argument a, whose kind's byte is k, read from the place at on: these, the letter, and 12 where the "letter does not fit the kind".
-abbrev pub fitted : ℕ → ℕ → Parts → ConversionType → Bool → ℕ → Specifier
+-- The element of the argument a, which has the kind k, read from the place at on: these, the letter, and 12 where the "letter does not fit the kind".
+abbrev pub fitted : ℕ → Kind → Parts → ConversionType → Bool → ℕ → Specifier
 fitted a k x c u at =
-    choose (fitsKind c k)
+    choose (fits c k)
     (λ _. S.Read (record { argument = a; flags = x .flags; width = x .width; precision = x .precision; conversion = c; upper = u }) at)
     (λ _. S.Refused 12)
 
-abbrev pub afterLetter : ℕ → ℕ → Parts → LetterTaken → Specifier
+abbrev pub afterLetter : ℕ → Kind → Parts → LetterTaken → Specifier
 afterLetter a k x (L.Read c u at) = fitted a k x c u at
 afterLetter a k x (L.Refused number) = S.Refused number
 
-abbrev pub afterParts : List ℕ → ℕ → ℕ → PartsTaken → Specifier
+abbrev pub afterParts : List ℕ → ℕ → Kind → PartsTaken → Specifier
 afterParts s a k (P.Read x at) = afterLetter a k x (letterAt s at)
 afterParts s a k (P.Refused number) = S.Refused number
 
-unfoldable pub specifierAt : List ℕ → ℕ → ℕ → ℕ → Specifier
+unfoldable pub specifierAt : List ℕ → ℕ → ℕ → Kind → Specifier
 specifierAt s at a k = afterParts s a k (partsAt s at)

@@ -5,6 +5,7 @@ pub mod params;
 
 use flags::Flags;
 use flags::FlagsTaken;
+use kinds::Kind;
 use kinds::letters::ConversionType;
 use kinds::letters::Letter;
 use kinds::letters::TimeLetter;
@@ -226,7 +227,7 @@ fn take_parts(fmt: &[u8], at: usize) -> PartsTaken
 }
 
 // An element behind its index: flags, width, precision, letter, and whether it fits the kind.
-pub fn take_conversion_specifier(fmt: &[u8], at: usize, argument: usize, kind: u8) -> Specifier
+pub fn take_conversion_specifier(fmt: &[u8], at: usize, argument: usize, kind: Kind) -> Specifier
     ensures { λ r. ⌜ r ≡ specifierAt (now (fmt .entry)) at argument kind ⌝ }
 {
     let taken = take_parts(fmt, at);

@@ -1,13 +1,11 @@
 -- `elements::put_element` meets its contract. Assumes nothing.
-use borrow.Author.Tests.{le-leb, lt-leb}
-use Rattle.elements.specs.Texts.{elementText}
 use Rattle.elements.proofs.Shown.{sized-text, sized-stop}
 use borrow.Author.Needs.{needs}
 use Rattle.elements.proofs.put_element.Statement.{statement}
 use Rattle.elements.proofs.put_element.Tie as tie
 
-prints-as-requires : tie.Need-prints-as-requires
-prints-as-requires c κs = search needs
+form-of-requires : tie.Need-form-of-requires
+form-of-requires c κs = search needs
 
 enum-known-form : tie.Need-enum-known-form
 enum-known-form c = search needs
@@ -22,7 +20,6 @@ same-length : tie.Need-same-length
 same-length c = search needs
 
 returns : tie.Need-returns
-unfolding elementText
 returns c =
     let put = c .before .before in
     let tested = put .before .before .before in
@@ -30,7 +27,7 @@ returns c =
     let form = known .before .before in
     let a = form .before .before .before .args in
     sized-text (a .out .now) _ _ _ _
-    (simp (← form .prints-as .ensures, known .form .given .1, le-leb 128 (a .kind) (tested .if1 .taken))) (put .format-string .ensures)
+    (simp (← form .form-of .ensures, known .form .given .1, tested .if1 .taken)) (put .format-string .ensures)
 
 format-integer-requires : tie.Need-format-integer-requires
 format-integer-requires c κs = search needs
@@ -50,8 +47,8 @@ format-boolean-requires c κs = search needs
 enum-told-3 : tie.Need-enum-told-3
 enum-told-3 c = search needs
 
-format-string-requires-2 : tie.Need-format-string-requires-2
-format-string-requires-2 c κs = search needs
+put-padded-requires : tie.Need-put-padded-requires
+put-padded-requires c κs = search needs
 
 enum-known-form-2 : tie.Need-enum-known-form-2
 enum-known-form-2 c = search needs
@@ -66,74 +63,68 @@ same-length-2 : tie.Need-same-length-2
 same-length-2 c = search needs
 
 returns-2 : tie.Need-returns-2
-unfolding elementText
 returns-2 c =
     let put = c .before .before in
     let tested = put .before .before in
     let known = tested .before .before in
     let form = known .before .before in
     let a = form .before .before .before .args in
-    simp (← form .prints-as .ensures, known .form .given .1, lt-leb 128 (a .kind) (tested .if1 .left)) (put .format-integer .ensures)
+    simp (← form .form-of .ensures, known .form .given .1, tested .if1 .left) (put .format-integer .ensures)
 
 same-length-3 : tie.Need-same-length-3
 same-length-3 c = search needs
 
 returns-3 : tie.Need-returns-3
-unfolding elementText
 returns-3 c =
     let put = c .before .before in
     let told = put .before .before in
     let form = told .before .before in
     let a = form .before .before .before .args in
-    sized-text (a .out .now) _ _ _ _ (simp (← form .prints-as .ensures, told .enum-told .given .1)) (put .format-hex-float .ensures)
+    sized-text (a .out .now) _ _ _ _ (simp (← form .form-of .ensures, told .enum-told .given .1)) (put .format-hex-float .ensures)
 
 same-length-4 : tie.Need-same-length-4
 same-length-4 c = search needs
 
 returns-4 : tie.Need-returns-4
-unfolding elementText
 returns-4 c =
     let put = c .before .before in
     let told = put .before .before in
     let form = told .before .before in
     let a = form .before .before .before .args in
-    sized-text (a .out .now) _ _ _ _ (simp (← form .prints-as .ensures, told .enum-told2 .given .1)) (put .format-boolean .ensures)
+    sized-text (a .out .now) _ _ _ _ (simp (← form .form-of .ensures, told .enum-told2 .given .1)) (put .format-boolean .ensures)
 
 same-length-5 : tie.Need-same-length-5
 same-length-5 c = search needs
 
 returns-5 : tie.Need-returns-5
-unfolding elementText
 returns-5 c =
     let put = c .before .before in
     let told = put .before .before in
     let form = told .before .before in
     let a = form .before .before .before .args in
-    sized-text (a .out .now) _ _ _ _ (simp (← form .prints-as .ensures, told .enum-told3 .given .1)) (put .format-string2 .ensures)
+    sized-text (a .out .now) _ _ _ _ (simp (← form .form-of .ensures, told .enum-told3 .given .1)) (put .put-padded .ensures)
 
 same-length-6 : tie.Need-same-length-6
 same-length-6 c = search needs
 
 returns-6 : tie.Need-returns-6
-unfolding elementText
 returns-6 c =
     let put = c .before .before in
     let known = put .before .before .before in
     let form = known .before .before in
-    simp (← form .prints-as .ensures, known .form2 .given .1) (put .format-time .ensures)
+    simp (← form .form-of .ensures, known .form2 .given .1) (put .format-time .ensures)
 
 returns-7 : tie.Need-returns-7
-unfolding elementText
 returns-7 c =
     let form = c .before .before in
     let a = form .before .before .before .args in
-    sized-stop (a .out .now) _ 15 (simp (← form .prints-as .ensures, c .enum-told4 .given .1))
+    sized-stop (a .out .now) _ 15 (simp (← form .form-of .ensures, c .enum-told4 .given .1))
 
 pub put-element-spec : {M : Type 1} → statement M
 put-element-spec =
     tie.close
     (tie.spec
-    prints-as-requires
+    form-of-requires
     enum-known-form
     slice-aggregate-format-string
     format-string-requires
@@ -145,7 +136,7 @@ put-element-spec =
     enum-told-2
     format-boolean-requires
     enum-told-3
-    format-string-requires-2
+    put-padded-requires
     enum-known-form-2
     format-time-requires
     enum-told-4

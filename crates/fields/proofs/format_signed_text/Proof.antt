@@ -11,11 +11,8 @@ use Rattle.fields.proofs.format_signed_text.Tie as tie
 slice-aggregate-write-signed-text : tie.Need-slice-aggregate-write-signed-text
 slice-aggregate-write-signed-text c = search needs
 
-is-negative-requires : tie.Need-is-negative-requires
-is-negative-requires c κs = search needs
-
-magnitude-requires : tie.Need-magnitude-requires
-magnitude-requires c κs = search needs
+integer-of-requires : tie.Need-integer-of-requires
+integer-of-requires c κs = search needs
 
 write-signed-text-requires : tie.Need-write-signed-text-requires
 write-signed-text-requires c κs = search needs
@@ -38,17 +35,16 @@ returns : tie.Need-returns
 returns c =
     let put = c .before .before in
     let wrote = put .before .before .before .before in
-    let signs = wrote .before in
+    let number = wrote .before .before in
     let text = wrote-start _ _ _ _ (wrote .write-signed-text .ensures .0) in
-    simp (← signs .magnitude .ensures, ← signs .before .is-negative .ensures) (rw text at (put .format-string .ensures))
+    rw (number .integer-of .ensures) at (rw text at (put .format-string .ensures))
 
 pub format-signed-text-spec : {M : Type 1} → statement M
 format-signed-text-spec =
     tie.close
     (tie.spec
+    integer-of-requires
     slice-aggregate-write-signed-text
-    is-negative-requires
-    magnitude-requires
     write-signed-text-requires
     array-share-prefix-buffer
     slice-aggregate-format-string

@@ -1,4 +1,4 @@
--- `kinds::form_of` meets its contract: for each conversion, what the arm is told, and its value. Assumes nothing.
+-- `kinds::form_of` meets its contract. Assumes nothing.
 use borrow.Author.Needs.{needs}
 use Rattle.kinds.proofs.form_of.Statement.{statement}
 use Rattle.kinds.proofs.form_of.Tie as tie
@@ -9,23 +9,26 @@ form-of-spec =
     (tie.spec
     (λ c. search needs)
     (λ c κs. search needs)
-    (λ c. search needs)
-    (λ c. search needs)
-    (λ c κs. search needs)
-    (λ c. search needs)
-    (λ c κs. search needs)
-    (λ c. search needs)
     (λ c κs. search needs)
     (λ c. search needs)
     (λ c. search needs)
     (λ c κs. search needs)
     (λ c. search needs)
     (λ c κs. search needs)
-    (λ c. simp (c .before .enum-told .given .1) (c .only-if .ensures))
     (λ c. search needs)
-    (λ c. simp (c .before .enum-told3 .given .1) (c .string-form .ensures))
+    (λ c κs. search needs)
+    (λ c. search needs)
+    (λ c. search needs)
+    (λ c κs. search needs)
+    (λ c κs. search needs)
+    (λ c. search needs)
+    (λ c κs. search needs)
+    (λ c κs. search needs)
+    (λ c. simp (c .before .before .enum-told .given .1, ← c .before .is-boolean .ensures) (c .only-if .ensures))
+    (λ c. search needs)
+    (λ c. search needs)
     (λ c. simp (c .before .enum-told4 .given .1) (c .integer-form .ensures))
     (λ c. simp (c .before .before .conversion .given .1) (c .integer-form2 .ensures))
     (λ c. search needs)
-    (λ c. simp (c .before .enum-told6 .given .1) (c .only-if2 .ensures))
-    (λ c. simp (c .before .before .conversion2 .given .1) (c .only-if3 .ensures)))
+    (λ c. simp (c .before .before .enum-told6 .given .1, ← c .before .is-float .ensures) (c .only-if2 .ensures))
+    (λ c. simp (c .before .before .before .conversion2 .given .1, ← c .before .is-timestamp .ensures) (c .only-if3 .ensures)))

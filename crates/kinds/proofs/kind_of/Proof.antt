@@ -1,5 +1,6 @@
 -- `kinds::kind_of` meets its contract: an argument for each kind, and one for a byte that is none of them. Assumes nothing.
-use mathlib.Core.Path.{sym, ap}
+use mathlib.Core.Path.{sym, ap, _∙_}
+use borrow.Author.Needs.{needs}
 use borrow.Author.Tests.{ne-eqb}
 use Rattle.kinds.specs.Kinds.{kindOf}
 use Rattle.kinds.proofs.kind_of.Statement.{statement}
@@ -10,10 +11,14 @@ unfolding kindOf
 kind-of-spec =
     tie.close
     (tie.spec
-    (λ c. sym (ap kindOf (c .match .keys1)))
-    (λ c. sym (ap kindOf (c .match .keys2)))
-    (λ c. sym (ap kindOf (c .match .keys3)))
-    (λ c. sym (ap kindOf (c .match .keys4)))
+    (λ c κs. search needs)
+    (λ c κs. search needs)
+    (λ c κs. search needs)
+    (λ c κs. search needs)
+    (λ c. c .signed-kind .ensures ∙ sym (ap kindOf (c .before .match .keys1)))
+    (λ c. c .signed-kind2 .ensures ∙ sym (ap kindOf (c .before .match .keys2)))
+    (λ c. c .signed-kind3 .ensures ∙ sym (ap kindOf (c .before .match .keys3)))
+    (λ c. c .signed-kind4 .ensures ∙ sym (ap kindOf (c .before .match .keys4)))
     (λ c. sym (ap kindOf (c .match .keys5)))
     (λ c. sym (ap kindOf (c .match .keys6)))
     (λ c. sym (ap kindOf (c .match .keys7)))

@@ -9,7 +9,7 @@ returns c =
     let put = c .before .before in
     let made = put .before in
     let a = made .before .before .before .args in
-    rw (numeral-text (a .e) (a .radix) (a .width) (a .value)) at (rw (made .numeral-of .ensures) at (put .put-numeral .ensures))
+    rw (numeral-text (a .e) (a .radix) (a .kind) (a .value)) at (rw (made .numeral-of .ensures) at (put .put-numeral .ensures))
 
 pub format-numeral-spec : {M : Type 1} → statement M
 format-numeral-spec = tie.close (tie.spec (λ c κs. search needs) (λ c κs. search needs) (λ c. search needs) returns)

@@ -6,8 +6,8 @@ use Rattle.numbers.proofs.numeral_of.Tie as tie
 enum-told : tie.Need-enum-told
 enum-told c = search needs
 
-signed-numeral-requires : tie.Need-signed-numeral-requires
-signed-numeral-requires c κs = search needs
+decimal-numeral-requires : tie.Need-decimal-numeral-requires
+decimal-numeral-requires c κs = search needs
 
 enum-told-2 : tie.Need-enum-told-2
 enum-told-2 c = search needs
@@ -37,7 +37,7 @@ unsigned-numeral-requires-2 : tie.Need-unsigned-numeral-requires-2
 unsigned-numeral-requires-2 c κs = search needs
 
 returns : tie.Need-returns
-returns c = simp (c .before .enum-told .given .1) (c .signed-numeral .ensures)
+returns c = simp (c .before .enum-told .given .1) (c .decimal-numeral .ensures)
 
 returns-2 : tie.Need-returns-2
 returns-2 c =
@@ -62,7 +62,7 @@ numeral-of-spec =
     tie.close
     (tie.spec
     enum-told
-    signed-numeral-requires
+    decimal-numeral-requires
     enum-told-2
     low-bits-requires
     if-alternate-requires

@@ -1,11 +1,16 @@
 -- `rows::are_entries` meets its contract. The loop's invariant: the entries from i + 1 on decide. Assumes nothing.
-use Prim.Native.Nat.{ℕ, _+_, _-_, _≤_}
-use mathlib.Core.Path.{_≡_, sym, ap, _∙_}
+use Prim.Native.Nat.{ℕ, _+_, _-_, _*_, _≤_}
+use mathlib.Core.Path.{_≡_, sym, ap, subst, _∙_}
 use mathlib.Core.Bool.{Bool, _&&_}
 use native.Mathlib.Nat.{sub-zero}
 use native.Mathlib.Omega.{arith}
+use lib.ListN.{length, take, drop}
 use borrow.Author.Tests.{not-true, not-false}
+use Rattle.rows.specs.Entry.{isEntry}
 use Rattle.rows.specs.Row.{entriesFrom}
+use Rattle.rows.specs.Widths.{HasWidth}
+use Rattle.rows.specs.declared.entries.Entry.{Entry}
+use Rattle.rows.proofs.Widths.{has-width}
 use Rattle.rows.proofs.EntryList.{entry-read, entries-next, entries-none}
 use borrow.Author.Needs.{needs}
 use Rattle.rows.proofs.are_entries.Statement.{statement}
@@ -38,11 +43,14 @@ add-eight-2 c = search needs
 eight-requires : tie.Need-eight-requires Inv-loop μ-loop
 eight-requires c κs = search needs
 
-add-is-entry : tie.Need-add-is-entry Inv-loop μ-loop
-add-is-entry c = search needs
+add-entry-of : tie.Need-add-entry-of Inv-loop μ-loop
+add-entry-of c = search needs
 
-shared-slice-read-is-entry : tie.Need-shared-slice-read-is-entry Inv-loop μ-loop
-shared-slice-read-is-entry c = search needs
+shared-slice-read-entry-of : tie.Need-shared-slice-read-entry-of Inv-loop μ-loop
+shared-slice-read-entry-of c = search needs
+
+entry-of-requires : tie.Need-entry-of-requires Inv-loop μ-loop
+entry-of-requires c κs = search needs
 
 sub-is-entry : tie.Need-sub-is-entry Inv-loop μ-loop
 sub-is-entry c = search needs
@@ -54,22 +62,24 @@ part-is-entry-end : tie.Need-part-is-entry-end Inv-loop μ-loop
 part-is-entry-end c = search needs
 
 is-entry-requires : tie.Need-is-entry-requires Inv-loop μ-loop
-is-entry-requires c κs = search needs
+is-entry-requires c κs = subst (λ (e : Entry). HasWidth (e .kind)) (sym (c .before .entry-of .ensures)) (has-width _)
 
 -- one entry more
 turn : (c : tie.After-is-entry Inv-loop μ-loop)
-    → let at-loop = c .before .before .before .before .before in
+    → let at-loop = c .before .before .before .before .before .before in
     let i = at-loop .loop .i in
     let a = at-loop .before .before .args in
     (c .is-entry .result && entriesFrom (a .n - (i + 1)) (a .row .now) (i + 1 + 1)) ≡ entriesFrom (a .n) (a .row .now) 1
 turn c =
-    let at-loop = c .before .before .before .before .before in
+    let entry = c .before .before in
+    let at-loop = entry .before .before .before .before in
     let l = at-loop .loop in
     let start = at-loop .before .before in
     let n = start .args .n in
     let s = start .args .row .now in
-    let v = c .before .before .before .eight in
-    let e = c .is-entry .ensures ∙ entry-read s n (l .i) (v .result) (start .pre .1) (v .ensures) in
+    let v = entry .before .before .eight in
+    let text = take (length s - (6 + 9 * n)) (drop (6 + 9 * n) s) in
+    let e = c .is-entry .ensures ∙ ap (isEntry text) (entry .entry-of .ensures) ∙ entry-read s n (l .i) (v .result) (start .pre .1) (v .ensures) in
     ap (λ (t : Bool). t && entriesFrom (n - (l .i + 1)) s (l .i + 1 + 1)) e ∙ sym (entries-next s n (l .i) (omega arith)) ∙ l .inv .1
 
 returns : tie.Need-returns Inv-loop μ-loop
@@ -103,8 +113,9 @@ are-entries-spec =
     mul-eight
     add-eight-2
     eight-requires
-    add-is-entry
-    shared-slice-read-is-entry
+    add-entry-of
+    shared-slice-read-entry-of
+    entry-of-requires
     sub-is-entry
     part-is-entry-start
     part-is-entry-end

@@ -1,11 +1,12 @@
--- `rows::value_of` meets its contract. Assumes nothing.
+-- `rows::entry` meets its contract. Assumes nothing.
 use Prim.Native.Nat.{_+_, _-_, _*_, _≤_}
 use native.Mathlib.Omega.{arith}
 use lib.ListN.{length}
+use Rattle.rows.specs.Row.{entryAt}
 use Rattle.rows.proofs.Arguments.{room}
 use borrow.Author.Needs.{needs}
-use Rattle.rows.proofs.value_of.Statement.{statement}
-use Rattle.rows.proofs.value_of.Tie as tie
+use Rattle.rows.proofs.entry.Statement.{statement}
+use Rattle.rows.proofs.entry.Tie as tie
 
 count-of-requires : tie.Need-count-of-requires
 count-of-requires c κs =
@@ -36,11 +37,29 @@ add-eight-2 c = omega (arith, inside c)
 eight-requires : tie.Need-eight-requires
 eight-requires c κs = omega (arith, inside c)
 
-returns : tie.Need-returns
-returns c = simp (c .before .count-of .ensures) at (c .eight .ensures)
+add-entry-of : tie.Need-add-entry-of
+add-entry-of c =
+    let start = c .before .before .before in
+    let r = room (start .args .row .now) (start .args .argument) (start .pre) in
+    omega (arith, r .1, r .3)
 
-pub value-of-spec : {M : Type 1} → statement M
-value-of-spec =
+shared-slice-read-entry-of : tie.Need-shared-slice-read-entry-of
+shared-slice-read-entry-of c =
+    let start = c .before .before .before .before in
+    let r = room (start .args .row .now) (start .args .argument) (start .pre) in
+    omega (arith, r .0, r .2, r .3)
+
+entry-of-requires : tie.Need-entry-of-requires
+entry-of-requires c κs = search needs
+
+returns : tie.Need-returns
+unfolding entryAt
+returns c =
+    let value = c .before .before in
+    simp (c .entry-of .ensures, value .eight .ensures, value .before .count-of .ensures)
+
+pub entry-spec : {M : Type 1} → statement M
+entry-spec =
     tie.close
     (tie.spec
     count-of-requires
@@ -49,4 +68,7 @@ value-of-spec =
     mul-eight
     add-eight-2
     eight-requires
+    add-entry-of
+    shared-slice-read-entry-of
+    entry-of-requires
     returns)
