@@ -15,7 +15,9 @@ use Rattle.specifiers.specs.declared.params.Number.the-variants as N
 use Rattle.specifiers.specs.declared.params.Taken.{Taken}
 use Rattle.specifiers.specs.declared.params.Taken.the-variants.{Param, TooLarge}
 use Rattle.specifiers.proofs.Numbers.{NumberIn, number-in}
-use Rattle.kinds.specs.Kinds.{fits}
+use Rattle.kinds.specs.Kinds.{fitOf}
+use Rattle.kinds.specs.declared.Fit.{Fit}
+use Rattle.kinds.specs.declared.Fit.the-variants.{Fits, Unfit}
 use Rattle.kinds.specs.declared.Kind.{Kind}
 use Rattle.specifiers.specs.Flags.{flagsAt}
 use Rattle.specifiers.specs.declared.flags.Flags.{Flags}
@@ -29,6 +31,7 @@ use Rattle.specifiers.specs.Specifier.{
   afterWidth,
   afterFlags,
   partsAt,
+  fitted,
   afterLetter,
   afterParts,
   specifierAt,
@@ -94,7 +97,11 @@ module _ (s : List ℕ) where
 
   module _ (a : ℕ) (k : Kind) where
     of-letter : (x : Parts) (t : LetterTaken) → PartsLimited (P.Read x 0) → SpecifierLimited (afterLetter a k x t)
-    of-letter x (L.Read c u at) h = by-test SpecifierLimited (fits c k) _ _ (λ _. h) (λ _. tt)
+    of-letter x (L.Read c u at) h = of-fit (fitOf c k)
+      where
+        of-fit : (f : Fit) → SpecifierLimited (fitted a x c u at f)
+        of-fit (Fits f) = h
+        of-fit Unfit = tt
     of-letter x (L.Refused number) h = tt
 
     of-parts : (t : PartsTaken) → PartsLimited t → SpecifierLimited (afterParts s a k t)

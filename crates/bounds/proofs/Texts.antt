@@ -28,7 +28,6 @@ use Rattle.binary64.specs.declared.FpCategory.the-variants as C
 use Rattle.hexfloats.specs.Texts.{hexFloatText}
 use Rattle.calendar.proofs.Epoch.{magnitude-within}
 use Rattle.kinds.specs.declared.letters.TimeFormat.{TimeFormat}
-use Rattle.kinds.specs.Kinds.{formOf}
 use Rattle.kinds.specs.declared.IntegerKind.{IntegerKind}
 use Rattle.kinds.specs.declared.IntegerForm.{IntegerForm}
 use Rattle.kinds.specs.declared.IntegerForm.the-variants.{Numeral, Scalar, Digits}
@@ -124,4 +123,4 @@ module _ (e : Element) (limited : Limited e) where
     pub element-short : (named : List ℕ) → Body named → Short (textOf (elementText e x named))
     unfolding elementText
     element-short named h =
-        value-short (formOf (e .conversion) (x .kind)) (cutTo (e .precision) named) (omega (arith, cut-shorter (e .precision) named))
+        value-short (e .form) (cutTo (e .precision) named) (omega (arith, cut-shorter (e .precision) named))

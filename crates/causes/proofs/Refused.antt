@@ -93,7 +93,8 @@ module _ (s row : List ℕ) (short : length s ≤ mostFormat) (formed : wellForm
       known : (w : Written) → (1 ≤ w .argument) × (w .argument ≤ length (kindsOf row)) → HasKind row w
       known w h =
           let few : w .argument ≤ countOf row = omega (arith, h .1, kinds-length row kept) in
-          ap (λ (k : ℕ). has kinds (unmarked k)) (sym (kind-byte row (w .argument) (h .0) few)) ∙ row-kinds row kept (w .argument) (h .0) (h .1)
+          let byte = kind-byte row (w .argument) (h .0) few in
+          record { known = ap (λ (k : ℕ). has kinds (unmarked k)) (sym byte) ∙ row-kinds row kept (w .argument) (h .0) (h .1); in-row = byte }
 
   stopped-measured : {n p : ℕ} → StopsReading s (kindsOf row) n p → measured s row ≡ Refused n p
   unfolding measuredEnd

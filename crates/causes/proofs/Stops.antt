@@ -3,13 +3,14 @@ use mathlib.Core.Path.{_≡_, refl, sym, ap, _∙_}
 use mathlib.Core.Bool.{Bool, true, false}
 use mathlib.Core.List.{List, [], _∷_, _++_}
 use mathlib.Core.Option.{Option, none, some}
-use Prim.Native.Nat.{ℕ}
+use Prim.Native.Nat.{ℕ, _-_}
 use lib.IntN.{ℤ}
-use lib.ListN.{length}
+use lib.ListN.{length, getD}
 use Rattle.writing.specs.Text.{ascii, has}
 use Rattle.writing.proofs.Choose.{both}
 use Rattle.numerals.specs.Integers.{intOf}
-use Rattle.kinds.specs.Kinds.{unmarked, formOf}
+use Rattle.kinds.specs.Kinds.{unmarked, kindIn, fitOf}
+use Rattle.kinds.specs.declared.Fit.the-variants.{Fits}
 use Rattle.specifiers.specs.declared.Element.{Element}
 use Rattle.parsing.specs.Listed.{Placed}
 use Rattle.parsing.specs.declared.Piece.{Piece}
@@ -23,7 +24,7 @@ use Rattle.grammar.proofs.Arguments.{OfElement, Each}
 use Rattle.grammar.proofs.Letters.{never}
 use Rattle.fields.specs.Cut.{cutTo}
 use Rattle.rows.specs.Entry.{integerIn}
-use Rattle.rows.specs.Row.{namedText, kindByteOf, entryAt}
+use Rattle.rows.specs.Row.{kindsOf, namedText, kindByteOf, entryAt}
 use Rattle.rows.specs.declared.entries.Entry.{Entry}
 use Rattle.elements.specs.Texts.{elementText, stopOf}
 use Rattle.elements.specs.PieceTexts.{shownEntry, shownPiece, pieceStop}
@@ -32,33 +33,38 @@ use Rattle.causes.specs.Causes.{isPrinted, isScalarValue, isBetweenSecon
 use Rattle.causes.specs.Causes.{PartPrinted, AllPrinted, FirstUnprinted, here, earlier}
 use Rattle.causes.proofs.Unprinted.{isCharacter, isDate, Shows, shows, stop, stops-15, stops-16, stops-18, goes-on}
 
--- An element of a row whose kind is known.
-abbrev pub HasKind : List ℕ → Written → Type 0
-HasKind row w = has kinds (unmarked (kindByteOf row (w .argument))) ≡ true
+-- An element of a row whose kind is known, and is the one that it was read against.
+pub record HasKind (row : List ℕ) (w : Written) : Type 0 where
+  pub known : has kinds (unmarked (kindByteOf row (w .argument))) ≡ true
+  pub in-row : getD (kindsOf row) (w .argument - 1) 0 ≡ kindByteOf row (w .argument)
 
-module _ (s row : List ℕ) (e : Element) (w : Written) (is : ElementIs e w) (known : HasKind row w) where
+module _ (s row : List ℕ) (e : Element) (w : Written) (is : ElementIs (kindsOf row) e w) (of-row : HasKind row w) where
   abbrev x : Entry
   x = entryAt row (w .argument)
 
   abbrev part : List ℕ
   part = cutTo (e .precision) (namedText row x)
 
-  shown-so : Shows (w .letter) (e .conversion) (unmarked (kindByteOf row (w .argument)))
-  shown-so = shows (w .letter) (e .conversion) (unmarked (kindByteOf row (w .argument))) (is .conversion) known
+  suits : fitOf (e .conversion) (kindIn (kindByteOf row (w .argument))) ≡ Fits (e .form)
+  suits = ap (λ (b : ℕ). fitOf (e .conversion) (kindIn b)) (sym (of-row .in-row)) ∙ is .form
 
-  stop-so : pieceStop s row (AnElement e) ≡ stop e x part (formOf (e .conversion) (x .kind))
+  shown-so : Shows (w .letter) (unmarked (kindByteOf row (w .argument))) (e .form)
+  shown-so = shows (w .letter) (e .conversion) (unmarked (kindByteOf row (w .argument))) (e .form) (is .conversion) (of-row .known) suits
+
+  stop-so : pieceStop s row (AnElement e) ≡ stop e x part (e .form)
   unfolding shownPiece elementText
   stop-so = ap (λ (a : ℕ). stopOf (shownEntry row e (entryAt row a))) (is .argument)
 
   unprinted-stops : (n : ℕ) → Unprinted row w n → pieceStop s row (AnElement e) ≡ some n
   unfolding entryAt
-  unprinted-stops n (not-printed h) = stop-so ∙ stops-15 e x part (formOf (e .conversion) (x .kind)) (sym (shown-so .printed) ∙ h)
-  unprinted-stops n (no-scalar p c null z) = stop-so ∙ stops-16 e x part (e .conversion) (sym (shown-so .character) ∙ simp (c, p)) null z
-  unprinted-stops n (no-whole-second p t z) = stop-so ∙ stops-18 e x part (formOf (e .conversion) (x .kind)) (sym (shown-so .date) ∙ simp (t, p)) z
+  unprinted-stops n (not-printed h) = stop-so ∙ stops-15 e x part (e .form) (sym (shown-so .printed) ∙ h)
+  unprinted-stops n (no-scalar p c null z) =
+      stop-so ∙ stops-16 e x part (e .conversion) (e .form) suits (sym (shown-so .character) ∙ simp (c, p)) null z
+  unprinted-stops n (no-whole-second p t z) = stop-so ∙ stops-18 e x part (e .form) (sym (shown-so .date) ∙ simp (t, p)) z
 
   printed-goes : ((n : ℕ) → Unprinted row w n → ⊥) → pieceStop s row (AnElement e) ≡ none
   unfolding entryAt
-  printed-goes none-of = stop-so ∙ goes-on e x part (e .conversion) (sym (shown-so .printed) ∙ printed) scalar whole
+  printed-goes none-of = stop-so ∙ goes-on e x part (e .conversion) (e .form) suits (sym (shown-so .printed) ∙ printed) scalar whole
     where
       printed : isPrinted row w ≡ true
       printed = go (isPrinted row w) refl
@@ -67,7 +73,7 @@ module _ (s row : List ℕ) (e : Element) (w : Written) (is : ElementIs e w) (kn
           go true q = refl
           go false q = absurd (none-of 15 (not-printed q))
 
-      scalar : isCharacter (formOf (e .conversion) (x .kind)) ≡ true → x .null ≡ false → isScalarValue (integerIn x) ≡ true
+      scalar : isCharacter (e .form) ≡ true → x .null ≡ false → isScalarValue (integerIn x) ≡ true
       scalar c null =
           go (isScalarValue (integerIn x)) refl (both (begins (has (ascii "cC")) (w .letter)) (isPrinted row w) (shown-so .character ∙ c) .0)
         where
@@ -75,7 +81,7 @@ module _ (s row : List ℕ) (e : Element) (w : Written) (is : ElementIs e w) (kn
           go true q b = refl
           go false q b = absurd (none-of 16 (no-scalar printed b null q))
 
-      whole : isDate (formOf (e .conversion) (x .kind)) ≡ true → isBetweenSeconds (intOf 64 (x .value)) ≡ false
+      whole : isDate (e .form) ≡ true → isBetweenSeconds (intOf 64 (x .value)) ≡ false
       whole d =
           go (isBetweenSeconds (intOf 64 (x .value))) refl (both (begins (has (ascii "tT")) (w .letter)) (isPrinted row w) (shown-so .date ∙ d) .0)
         where
@@ -162,14 +168,14 @@ module _ (s row : List ℕ) where
       go none e = e
       go (some n) e = refl
 
-  piece-goes : {at : ℕ} {x : Piece} {p : Part} → PieceIs at x p → OfElement (HasKind row) p → PartPrinted row p → pieceStop s row x ≡ none
+  piece-goes : {at : ℕ} {x : Piece} {p : Part} → PieceIs (kindsOf row) at x p → OfElement (HasKind row) p → PartPrinted row p → pieceStop s row x ≡ none
   unfolding shownPiece
   piece-goes (Q.is-text e f) known h = refl
   piece-goes (Q.is-percent e f) known h = refl
   piece-goes (Q.is-newline e) known h = refl
   piece-goes (Q.is-element {e} {w} is) known h = printed-goes s row e w is known h
 
-  pub none-stops : {ps : List Placed} {parts : List Part} → Lists ps parts → Each (HasKind row) parts → AllPrinted row parts → firstStop s row ps ≡ none
+  pub none-stops : {ps : List Placed} {parts : List Part} → Lists (kindsOf row) ps parts → Each (HasKind row) parts → AllPrinted row parts → firstStop s row ps ≡ none
   unfolding firstStop
   none-stops Q.nothing known h = refl
   none-stops (Q.one {ps} {before} {x} {p} l is from to) known h =
@@ -180,7 +186,7 @@ module _ (s row : List ℕ) where
   abbrev stopOn : ℕ → ℕ → Option Stop
   stopOn n p = some (record { number = n; place = p })
 
-  pub first-stops : {ps : List Placed} {parts : List Part} {n p : ℕ} → Lists ps parts → Each (HasKind row) parts → FirstUnprinted row parts n p
+  pub first-stops : {ps : List Placed} {parts : List Part} {n p : ℕ} → Lists (kindsOf row) ps parts → Each (HasKind row) parts → FirstUnprinted row parts n p
       → firstStop s row ps ≡ stopOn n p
   first-stops (Q.one {ps} {before} {x} l is from to) known (earlier u) =
       first-snoc ps x ∙ ap (λ (t : Option Stop). orElse t (stopAt (pieceStop s row (x .piece)) (x .from) none)) (first-stops l (known .1) u)
@@ -190,5 +196,5 @@ module _ (s row : List ℕ) where
       ∙ ap (λ (t : Option ℕ). stopAt t (x .from) none) (piece-stops is (known .0) u)
       ∙ ap (stopOn n) from
     where
-      piece-stops : {at : ℕ} {y : Piece} {w : Written} {n : ℕ} → PieceIs at y (element w) → HasKind row w → Unprinted row w n → pieceStop s row y ≡ some n
+      piece-stops : {at : ℕ} {y : Piece} {w : Written} {n : ℕ} → PieceIs (kindsOf row) at y (element w) → HasKind row w → Unprinted row w n → pieceStop s row y ≡ some n
       piece-stops (Q.is-element {e} {w} is) known u = unprinted-stops s row e w is known _ u

@@ -1,5 +1,5 @@
 -- Which elements of a row are not printed, by their letters, and which is the first. Assumes nothing.
-use mathlib.Core.Path.{_≡_, refl, sym, ap, _∙_}
+use mathlib.Core.Path.{_≡_, refl, sym, ap, subst, _∙_}
 use mathlib.Core.Bool.{Bool, true, false, _&&_, _||_}
 use mathlib.Core.List.{List, [], _∷_}
 use mathlib.Core.Option.{Option, none, some}
@@ -14,17 +14,16 @@ use Rattle.writing.specs.Text.{ascii, has}
 use Rattle.writing.proofs.Choose.{both}
 use Rattle.numerals.specs.Integers.{intOf, integerOf}
 use Rattle.numerals.specs.declared.Radix.the-variants.{Decimal, Octal, Hexadecimal}
-use Rattle.kinds.specs.Kinds.{kindOf, formOf}
+use Rattle.kinds.specs.Kinds.{kindOf, fitOf}
 use Rattle.kinds.specs.declared.letters.ConversionType.{ConversionType}
 use Rattle.kinds.specs.declared.letters.ConversionType.the-variants as C
 use Rattle.kinds.specs.declared.letters.TimeFormat.{TimeFormat}
-use Rattle.kinds.specs.declared.IntegerKind.{IntegerKind}
-use Rattle.kinds.specs.declared.Kind.{Kind}
-use Rattle.kinds.specs.declared.Kind.the-variants as K
 use Rattle.kinds.specs.declared.IntegerForm.the-variants.{Numeral, Scalar, Digits}
 use Rattle.kinds.specs.declared.Form.{Form}
 use Rattle.kinds.specs.declared.Form.the-variants as F
-use Rattle.kinds.proofs.Tables.{OfInteger, form-of}
+use Rattle.kinds.specs.declared.Fit.{Fit}
+use Rattle.kinds.specs.declared.Fit.the-variants.{Fits, Unfit}
+use Rattle.kinds.proofs.Tables.{OfForm, form-of}
 use Rattle.specifiers.specs.declared.Element.{Element}
 use Rattle.grammar.specs.Runs.{begins, all}
 use Rattle.grammar.specs.Elements.{kinds, inTable}
@@ -64,12 +63,15 @@ isDate F.Text = false
 isDate (F.Time x) = true
 isDate F.NotPrinted = false
 
--- What the table says of a letter and a kind byte is what the form of its conversion says.
+-- What the table says of a letter and a kind byte is what the form of what fits says.
+abbrev agreesAs : ℕ → ℕ → Fit → Bool
+agreesAs b k (Fits f) =
+    same (inTable printedFor b k) (hasForm f)
+    && (same (has (ascii "cC") b && inTable printedFor b k) (isCharacter f) && same (has (ascii "tT") b && inTable printedFor b k) (isDate f))
+agreesAs b k Unfit = true
+
 abbrev agrees : ConversionType → ℕ → ℕ → Bool
-agrees c b k =
-    same (inTable printedFor b k) (hasForm (formOf c (kindOf k)))
-    && (same (has (ascii "cC") b && inTable printedFor b k) (isCharacter (formOf c (kindOf k)))
-    && same (has (ascii "tT") b && inTable printedFor b k) (isDate (formOf c (kindOf k))))
+agrees c b k = agreesAs b k (fitOf c (kindOf k))
 
 all-agree : (c : ConversionType) → all (λ b. all (agrees c b) kinds) (lettersOf c) ≡ true
 unfolding all has kindOf
@@ -84,19 +86,19 @@ all-agree C.DecimalFloat = refl
 all-agree C.HexFloat = refl
 all-agree (C.Time t) = refl
 
--- An element's letter, for a kind: it is printed as the table says.
-pub record Shows (x : List ℕ) (c : ConversionType) (k : ℕ) : Type 0 where
-  pub printed : printsBytes x k ≡ hasForm (formOf c (kindOf k))
-  pub character : (begins (has (ascii "cC")) x && printsBytes x k) ≡ isCharacter (formOf c (kindOf k))
-  pub date : (begins (has (ascii "tT")) x && printsBytes x k) ≡ isDate (formOf c (kindOf k))
+-- An element's letter x, for a kind byte k that it prints in the form f: it is printed as the table says.
+pub record Shows (x : List ℕ) (k : ℕ) (f : Form) : Type 0 where
+  pub printed : printsBytes x k ≡ hasForm f
+  pub character : (begins (has (ascii "cC")) x && printsBytes x k) ≡ isCharacter f
+  pub date : (begins (has (ascii "tT")) x && printsBytes x k) ≡ isDate f
 
-pub shows : (x : List ℕ) (c : ConversionType) (k : ℕ) → begins (has (lettersOf c)) x ≡ true → has kinds k ≡ true → Shows x c k
-shows [] c k h i = absurd (never h)
-shows (b ∷ more) c k h i =
-    let f = formOf c (kindOf k) in
+pub shows : (x : List ℕ) (c : ConversionType) (k : ℕ) (f : Form) → begins (has (lettersOf c)) x ≡ true → has kinds k ≡ true
+    → fitOf c (kindOf k) ≡ Fits f → Shows x k f
+shows [] c k f h i q = absurd (never h)
+shows (b ∷ more) c k f h i q =
+    let agreed = ap (agreesAs b k) (sym q) ∙ all-has (agrees c b) kinds k (all-has (λ b. all (agrees c b) kinds) (lettersOf c) b (all-agree c) h) i in
     let a = both (same (inTable printedFor b k) (hasForm f))
-    (same (has (ascii "cC") b && inTable printedFor b k) (isCharacter f) && same (has (ascii "tT") b && inTable printedFor b k) (isDate f))
-    (all-has (agrees c b) kinds k (all-has (λ b. all (agrees c b) kinds) (lettersOf c) b (all-agree c) h) i) in
+    (same (has (ascii "cC") b && inTable printedFor b k) (isCharacter f) && same (has (ascii "tT") b && inTable printedFor b k) (isDate f)) agreed in
     let d = both (same (has (ascii "cC") b && inTable printedFor b k) (isCharacter f)) (same (has (ascii "tT") b && inTable printedFor b k) (isDate f)) (a .1) in
     record { printed = same-is _ _ (a .0); character = same-is _ _ (d .0); date = same-is _ _ (d .1) }
 
@@ -134,19 +136,11 @@ integerAs F.Text v = pos 0
 integerAs (F.Time x) v = pos 0
 integerAs F.NotPrinted v = pos 0
 
-own-kind : (k : Kind) → OfInteger (λ i. i ≡ integerKindOf k) k
-own-kind (K.Integer k) = refl
-own-kind K.Float64 = tt
-own-kind K.Boolean = tt
-own-kind K.Text = tt
-own-kind K.Timestamp = tt
-own-kind K.NoKind = tt
-
-same-integer : (c : ConversionType) (x : Entry) → isCharacter (formOf c (x .kind)) ≡ true → integerAs (formOf c (x .kind)) (x .value) ≡ integerIn x
-same-integer c x =
-    form-of (λ f. isCharacter f ≡ true → integerAs f (x .value) ≡ integerIn x) (λ i. i ≡ integerKindOf (x .kind)) (λ h. absurd (never h))
-    (λ f i q _. ap (λ (i : IntegerKind). integerOf (i .signed) (x .value)) q) (λ h. absurd (never h)) (λ h. absurd (never h)) (λ t h. absurd (never h))
-    c (x .kind) (λ _ h. absurd (never h)) (own-kind (x .kind))
+same-integer : (c : ConversionType) (x : Entry) (f : Form) → fitOf c (x .kind) ≡ Fits f → isCharacter f ≡ true → integerAs f (x .value) ≡ integerIn x
+same-integer c x f q =
+    subst (OfForm (λ f. isCharacter f ≡ true → integerAs f (x .value) ≡ integerIn x)) q
+    (form-of (λ k f. isCharacter f ≡ true → integerAs f (x .value) ≡ integerOf (integerKindOf k .signed) (x .value)) (λ k h. absurd (never h))
+    (λ f k h. refl) (λ h. absurd (never h)) (λ h. absurd (never h)) (λ h. absurd (never h)) (λ t h. absurd (never h)) c (x .kind))
 
 -- What stops an entry in a form.
 module _ (e : Element) (x : Entry) (part : List ℕ) where
@@ -171,9 +165,9 @@ module _ (e : Element) (x : Entry) (part : List ℕ) where
   as-16 (F.Time t) h m n = absurd (never h)
   as-16 F.NotPrinted h m n = absurd (never h)
 
-  pub stops-16 : (c : ConversionType) → isCharacter (formOf c (x .kind)) ≡ true → x .null ≡ false → isScalarValue (integerIn x) ≡ false
-      → stop (formOf c (x .kind)) ≡ some 16
-  stops-16 c h m n = as-16 (formOf c (x .kind)) h m (ap isScalarValue (same-integer c x h) ∙ n)
+  pub stops-16 : (c : ConversionType) (f : Form) → fitOf c (x .kind) ≡ Fits f → isCharacter f ≡ true → x .null ≡ false
+      → isScalarValue (integerIn x) ≡ false → stop f ≡ some 16
+  stops-16 c f q h m n = as-16 f h m (ap isScalarValue (same-integer c x f q h) ∙ n)
 
   pub stops-18 : (f : Form) → isDate f ≡ true → isBetweenSeconds (intOf 64 (x .value)) ≡ true → stop f ≡ some 18
   stops-18 (F.Integer f k) h n = absurd (never h)
@@ -197,7 +191,7 @@ module _ (e : Element) (x : Entry) (part : List ℕ) where
   integer-goes (F.Time t) null m h s d = date-stop (e .upper) t (intOf 64 (x .value)) ∙ simp (d refl)
   integer-goes F.NotPrinted null m h s d = absurd (never h)
 
-  pub goes-on : (c : ConversionType) → hasForm (formOf c (x .kind)) ≡ true
-      → (isCharacter (formOf c (x .kind)) ≡ true → x .null ≡ false → isScalarValue (integerIn x) ≡ true)
-      → (isDate (formOf c (x .kind)) ≡ true → isBetweenSeconds (intOf 64 (x .value)) ≡ false) → stop (formOf c (x .kind)) ≡ none
-  goes-on c h s d = integer-goes (formOf c (x .kind)) (x .null) refl h (λ i m. ap isScalarValue (same-integer c x i) ∙ s i m) d
+  pub goes-on : (c : ConversionType) (f : Form) → fitOf c (x .kind) ≡ Fits f → hasForm f ≡ true
+      → (isCharacter f ≡ true → x .null ≡ false → isScalarValue (integerIn x) ≡ true)
+      → (isDate f ≡ true → isBetweenSeconds (intOf 64 (x .value)) ≡ false) → stop f ≡ none
+  goes-on c f q h s d = integer-goes f (x .null) refl h (λ i m. ap isScalarValue (same-integer c x f q i) ∙ s i m) d

@@ -12,9 +12,10 @@ use Rattle.numerals.specs.Integers.{integerOf, bitsOf}
 use Rattle.numerals.specs.declared.Radix.{Radix}
 use Rattle.numerals.specs.declared.Radix.the-variants as R
 use Rattle.binary64.specs.Fields.{categoryOf}
+use Rattle.binary64.specs.declared.FpCategory.{FpCategory}
 use Rattle.binary64.specs.declared.FpCategory.the-variants.{Finite}
 use Rattle.reading.specs.Reading.{Integer, Bits, readPiece}
-use Rattle.kinds.specs.Kinds.{isFloat, integerForm, onlyIf, formOf}
+use Rattle.kinds.specs.Kinds.{integersAlone, fitOf}
 use Rattle.kinds.specs.declared.letters.ConversionType.{ConversionType}
 use Rattle.kinds.specs.declared.letters.ConversionType.the-variants as C
 use Rattle.kinds.specs.declared.IntegerKind.{IntegerKind}
@@ -22,21 +23,23 @@ use Rattle.kinds.specs.declared.Kind.{Kind}
 use Rattle.kinds.specs.declared.Kind.the-variants as K
 use Rattle.kinds.specs.declared.IntegerForm.{IntegerForm}
 use Rattle.kinds.specs.declared.IntegerForm.the-variants.{Numeral, Scalar, Digits}
+use Rattle.kinds.specs.declared.Form.{Form}
 use Rattle.kinds.specs.declared.Form.the-variants as F
-use Rattle.kinds.proofs.Tables.{OfInteger, form-of}
+use Rattle.kinds.specs.declared.Fit.the-variants.{Fits, Unfit}
+use Rattle.kinds.proofs.Tables.{OfForm, form-of}
 use Rattle.specifiers.specs.declared.Element.{Element}
 use Rattle.rows.specs.Entry.{isEntry, integerKindOf, integerIn}
 use Rattle.rows.specs.Widths.{HasWidth}
 use Rattle.rows.proofs.Widths.{has-width}
 use Rattle.rows.specs.Row.{entryAt, textArea}
-use Rattle.rows.specs.Arguments.{Argument}
 use Rattle.rows.specs.declared.entries.Entry.{Entry}
 use Rattle.rows.proofs.Rows.{AllBytes, value-below, entry}
 use Rattle.fields.specs.Cut.{cutTo}
 use Rattle.fields.specs.Texts.{formatString}
 use Rattle.elements.specs.Texts.{Shown, Text, Stops, integerText, valueText, elementText, textOf as shownText, stopOf}
+use Rattle.elements.specs.Ready.{Suited}
 use Rattle.columns.specs.Columns.{FloatRead, ReadsBack}
-use Rattle.columns.proofs.Forms.{numeralLetter, floatLetter, NumeralRead, IntegerRead, ValueRead}
+use Rattle.columns.proofs.Forms.{numeralLetter, floatLetter, NumeralRead, FiniteRead, IntegerRead, ValueRead}
 use Rattle.columns.proofs.Letters.{NamedBy, among, is-decimal, is-octal, is-hex, is-upper-hex, is-float, is-upper-float}
 use Rattle.columns.proofs.Integers.{own-bits, numeral-read}
 use Rattle.columns.proofs.Floats.{float-read}
@@ -56,17 +59,26 @@ abbrev OwnBits : ℕ → Bool → IntegerKind → Type 0
 OwnBits v true k = Unit {0}
 OwnBits v false k = v % 2 ^ k .width ≡ bitsOf (k .width) (integerOf (k .signed) v)
 
--- of an entry of a row, by its kind
-of-kind : (v : ℕ) (b : v < 2 ^ 64) (text : List ℕ) (k : Kind) (null : Bool) → HasWidth k → isEntry text (record { kind = k; null = null; value = v }) ≡ true
-    → OfInteger (OwnBits v null) k
+-- of a kind, where it is an integer's
+abbrev Own : ℕ → Bool → Kind → Type 0
+Own v null (K.Integer k) = OwnBits v null k
+Own v null K.Float64 = Unit {0}
+Own v null K.Boolean = Unit {0}
+Own v null K.Text = Unit {0}
+Own v null K.Timestamp = Unit {0}
+Own v null K.NoKind = Unit {0}
+
+-- of an entry of a row
+own-entry : (v : ℕ) (b : v < 2 ^ 64) (text : List ℕ) (k : Kind) (null : Bool) → HasWidth k
+    → isEntry text (record { kind = k; null = null; value = v }) ≡ true → Own v null k
 unfolding isEntry
-of-kind v b text (K.Integer k) false w h = own-bits (k .width) (k .signed) v (w .0) (w .1) b h
-of-kind v b text (K.Integer k) true w h = tt
-of-kind v b text K.Float64 null w h = tt
-of-kind v b text K.Boolean null w h = tt
-of-kind v b text K.Text null w h = tt
-of-kind v b text K.Timestamp null w h = tt
-of-kind v b text K.NoKind null w h = tt
+own-entry v b text (K.Integer k) false w h = own-bits (k .width) (k .signed) v (w .0) (w .1) b h
+own-entry v b text (K.Integer k) true w h = tt
+own-entry v b text K.Float64 null w h = tt
+own-entry v b text K.Boolean null w h = tt
+own-entry v b text K.Text null w h = tt
+own-entry v b text K.Timestamp null w h = tt
+own-entry v b text K.NoKind null w h = tt
 
 -- by its form
 module _ (e : Element) (x : Entry) (part : List ℕ) where
@@ -83,43 +95,61 @@ module _ (e : Element) (x : Entry) (part : List ℕ) where
   integer-value true f k h = tt
 
   -- of every element
-  element-read : OfInteger (OwnBits (x .value) (x .null)) (x .kind)
-      → ShownRead (ValueRead e (formOf (e .conversion) (x .kind)) (x .null) (x .value)) (elementText e x part)
+  element-read : fitOf (e .conversion) (x .kind) ≡ Fits (e .form) → Own (x .value) (x .null) (x .kind)
+      → ShownRead (ValueRead e (e .form) (x .null) (x .value)) (elementText e x part)
   unfolding elementText
-  element-read =
-      let cut = cutTo (e .precision) part in
-      form-of (λ f. ShownRead (ValueRead e f (x .null) (x .value)) (valueText e f x cut)) (OwnBits (x .value) (x .null)) tt
-      (λ f k h. integer-value (x .null) f k h) (float-read e (categoryOf (x .value)) (x .value)) tt (λ t. not-read (valueText e (F.Time t) x cut))
-      (e .conversion) (x .kind) (λ _. tt)
+  element-read q =
+      subst (OfForm (λ f. Own (x .value) (x .null) (x .kind) → Read f)) q
+      (form-of (λ k f. Own (x .value) (x .null) k → Read f) (λ k _. tt) (λ f k h. integer-value (x .null) f k h)
+      (λ _. float-read e (categoryOf (x .value)) (x .value)) (λ _. tt) (λ _. tt) (λ t _. not-read (valueText e (F.Time t) x cut)) (e .conversion) (x .kind))
+    where
+      cut : List ℕ
+      cut = cutTo (e .precision) part
+
+      Read : Form → Type 0
+      Read f = ShownRead (ValueRead e f (x .null) (x .value)) (valueText e f x cut)
 
 unstopped : (R : List ℕ → Type 0) (x : Shown) → ShownRead R x → stopOf x ≡ none → R (shownText x)
 unstopped R (Text t) h e = h
 unstopped R (Stops n) h e = absurd (let z : _≡_ {A = ℕ} 0 1 = cc in omega arith)
 
 -- What was read by its form was read by its letter.
-module _ (e : Element) (x : Entry) (t : List ℕ) (read : ValueRead e (formOf (e .conversion) (x .kind)) (x .null) (x .value) t) where
-  -- a numeral of an integer kind; of any other kind it is not printed
+module _ (e : Element) (x : Entry) (suits : fitOf (e .conversion) (x .kind) ≡ Fits (e .form)) (t : List ℕ)
+    (read : ValueRead e (e .form) (x .null) (x .value) t) where
+  with-letter : (c : ConversionType) → e .conversion ≡ c → fitOf c (x .kind) ≡ Fits (e .form)
+  with-letter c q = subst (λ (d : ConversionType). fitOf d (x .kind) ≡ Fits (e .form)) q suits
+
+  unfit : {f : Form} → Unfit ≡ Fits f → ⊥
+  unfit q = let z : _≡_ {A = ℕ} 0 1 = cc in omega arith
+
+  -- a numeral of an integer kind; no other kind fits
   numeral : (r : Radix) → e .conversion ≡ C.Integer r → x .null ≡ false
       → NumeralRead r (integerKindOf (x .kind) .width) (integerIn x) (readPiece (numeralLetter r (e .upper)) t)
-  numeral r c n =
-      each (x .kind) (subst (λ (b : Bool). ValueRead e (formOf (C.Integer r) (x .kind)) b (x .value) t) n
-      (subst (λ (d : ConversionType). ValueRead e (formOf d (x .kind)) (x .null) (x .value) t) c read))
+  numeral r c n = each (x .kind) (with-letter (C.Integer r) c) (subst (λ (b : Bool). ValueRead e (e .form) b (x .value) t) n read)
     where
-      each : (k : Kind) → ValueRead e (integerForm (Numeral r) k) false (x .value) t
+      each : (k : Kind) → integersAlone (Numeral r) k ≡ Fits (e .form) → ValueRead e (e .form) false (x .value) t
           → NumeralRead r (integerKindOf k .width) (integerOf (integerKindOf k .signed) (x .value)) (readPiece (numeralLetter r (e .upper)) t)
-      each (K.Integer k) h = h
-      each K.Float64 h = absurd h
-      each K.Boolean h = absurd h
-      each K.Text h = absurd h
-      each K.Timestamp h = absurd h
-      each K.NoKind h = absurd h
+      each (K.Integer k) q h = let f : e .form ≡ F.Integer (Numeral r) k = cc in subst (λ (f : Form). ValueRead e f false (x .value) t) f h
+      each K.Float64 q h = absurd (unfit q)
+      each K.Boolean q h = absurd (unfit q)
+      each K.Text q h = absurd (unfit q)
+      each K.Timestamp q h = absurd (unfit q)
+      each K.NoKind q h = absurd (unfit q)
 
   finite : e .conversion ≡ C.HexFloat → categoryOf (x .value) ≡ Finite → FloatRead (x .value) (e .precision) (readPiece (floatLetter (e .upper)) t)
-  finite c q = go (isFloat (x .kind)) (subst (λ (d : ConversionType). ValueRead e (formOf d (x .kind)) (x .null) (x .value) t) c read)
+  finite c q = each (x .kind) (with-letter C.HexFloat c) read
     where
-      go : (b : Bool) → ValueRead e (onlyIf b F.HexFloat) (x .null) (x .value) t → FloatRead (x .value) (e .precision) (readPiece (floatLetter (e .upper)) t)
-      go true h = rw q at h
-      go false h = absurd h
+      each : (k : Kind) → fitOf C.HexFloat k ≡ Fits (e .form) → ValueRead e (e .form) (x .null) (x .value) t
+          → FloatRead (x .value) (e .precision) (readPiece (floatLetter (e .upper)) t)
+      each (K.Integer k) p h = let f : e .form ≡ F.NotPrinted = cc in absurd (subst (λ (f : Form). ValueRead e f (x .null) (x .value) t) f h)
+      each K.Float64 p h =
+          let f : e .form ≡ F.HexFloat = cc in
+          subst (λ (y : FpCategory). FiniteRead y (x .value) (e .precision) (readPiece (floatLetter (e .upper)) t)) q
+          (subst (λ (f : Form). ValueRead e f (x .null) (x .value) t) f h)
+      each K.Boolean p h = absurd (unfit p)
+      each K.Text p h = absurd (unfit p)
+      each K.Timestamp p h = absurd (unfit p)
+      each K.NoKind p h = absurd (unfit p)
 
   by-letter : (letter : ℕ) → NamedBy letter (e .conversion) (e .upper) → ReadsBack letter x (e .precision) t
   unfolding has
@@ -167,12 +197,14 @@ module _ (e : Element) (x : Entry) (t : List ℕ) (read : ValueRead e (formOf (e
           h named
 
 -- Of every element that takes an argument of a row that keeps its layout, where nothing stops it: it reads back by its letter.
-pub reads-back : (row : List ℕ) → AllBytes row → (e : Element) → Argument row (e .argument) → (part : List ℕ)
+pub reads-back : (row : List ℕ) → AllBytes row → (e : Element) → Suited row e → (part : List ℕ)
     → stopOf (elementText e (entryAt row (e .argument)) part) ≡ none → (letter : ℕ) → NamedBy letter (e .conversion) (e .upper)
     → ReadsBack letter (entryAt row (e .argument)) (e .precision) (shownText (elementText e (entryAt row (e .argument)) part))
 unfolding entryAt
-reads-back row bytes e a part stop =
+reads-back row bytes e suits part stop =
     let x = entryAt row (e .argument) in
-    let own = of-kind (x .value) (value-below row (e .argument) bytes) (textArea row) (x .kind) (x .null) (has-width _)
+    let a = suits .argument in
+    let own = own-entry (x .value) (value-below row (e .argument) bytes) (textArea row) (x .kind) (x .null) (has-width _)
     (entry row (a .kept) (e .argument) (a .first) (a .last)) in
-    by-letter e x _ (unstopped (ValueRead e (formOf (e .conversion) (x .kind)) (x .null) (x .value)) (elementText e x part) (element-read e x part own) stop)
+    by-letter e x (suits .form) _
+    (unstopped (ValueRead e (e .form) (x .null) (x .value)) (elementText e x part) (element-read e x part (suits .form) own) stop)

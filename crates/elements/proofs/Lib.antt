@@ -1,3 +1,3 @@
-mod PieceTexts
+pub mod PieceTexts
 mod Characters
 mod Shown

@@ -1,26 +1,30 @@
 -- What a piece's text and size are, by the piece. Assumes nothing.
-use Prim.Native.Nat.{ℕ, _^_, _<_}
-use mathlib.Core.Path.{_≡_, refl, ap}
+use Prim.Native.Nat.{ℕ, _^_, _≤_, _<_}
+use mathlib.Core.Path.{_≡_, refl, sym, ap, subst, _∙_}
+use mathlib.Core.Bool.{Bool, true, false, true≢false}
 use mathlib.Core.List.{List}
 use mathlib.Core.Option.{Option, none, some}
 use native.Mathlib.Omega.{arith}
 use lib.ListN.{length}
 use Rattle.writing.specs.Writers.{Put}
-use Rattle.kinds.specs.Kinds.{formOf}
-use Rattle.kinds.proofs.Tables.{any-integer, form-of}
+use Rattle.kinds.specs.Kinds.{kindIn, fitOf}
+use Rattle.kinds.specs.declared.letters.ConversionType.{ConversionType}
+use Rattle.kinds.specs.declared.Kind.{Kind}
+use Rattle.kinds.specs.declared.Kind.the-variants as K
+use Rattle.kinds.specs.declared.Form.{Form}
+use Rattle.kinds.specs.declared.Form.the-variants as F
+use Rattle.kinds.specs.declared.Fit.the-variants.{Fits}
+use Rattle.kinds.proofs.Tables.{OfForm, form-of}
 use Rattle.specifiers.specs.declared.Element.{Element}
 use Rattle.parsing.specs.declared.Piece.the-variants.{Element as AnElement}
-use Rattle.fields.specs.Cut.{cutTo}
-use Rattle.rows.specs.Row.{namedText}
-use Rattle.rows.specs.Arguments.{Argument, handedOut}
-use Rattle.rows.specs.declared.entries.Entry.{Entry}
-use Rattle.rows.proofs.Rows.{kinds-length}
-use Rattle.elements.specs.Texts.{Shown, Text, Stops, valueText, elementText, textOf, stopOf}
+use Rattle.rows.specs.Row.{countOf, kindsOf, entryAt, isRow}
+use Rattle.parsing.specs.Covers.{PieceIn}
+use Rattle.rows.proofs.Rows.{kinds-length, kind-byte}
+use Rattle.elements.specs.Texts.{Shown, Text, Stops, textOf, stopOf}
 use Rattle.elements.specs.Sizes.{Sized, sizeOf}
 use Rattle.elements.specs.declared.Size.{Size}
 use Rattle.elements.specs.declared.Size.the-variants as S
-use Rattle.elements.specs.PieceTexts.{shownEntry}
-use Rattle.elements.specs.Ready.{Ready}
+use Rattle.elements.specs.Ready.{Suited}
 
 -- the size by what stops a text and by its length
 abbrev pub sized : Option ℕ → ℕ → Size
@@ -42,19 +46,28 @@ shown-text (Stops number) e =
 pub put-sized : (d t out : List ℕ) (n : ℕ) → Put d t n out → n < 2 ^ 42 → Sized d (Text t) (S.Bytes n) out
 put-sized d t out n w h = record { size = ap S.Bytes (w .0); below = h; bytes = w .1 }
 
-module _ (s row : List ℕ) (e : Element) where
-  pub argument-in : Ready s row (AnElement e) → Argument row (e .argument)
-  argument-in r = record {
-    kept = r .kept;
-    first = r .inside .0;
-    last = omega (arith, r .inside .1, kinds-length row (r .kept));
-  }
+-- An element that is found takes an argument of the row, and has the form of its kind.
+pub found-suited : (s row : List ℕ) (e : Element) → isRow row ≡ true → PieceIn s (kindsOf row) (AnElement e) → Suited row e
+unfolding entryAt
+found-suited s row e kept i =
+    let last : e .argument ≤ countOf row = omega (arith, i .1, kinds-length row kept) in
+    let byte = kind-byte row (e .argument) (i .0) last in
+    record {
+      argument = record { kept = kept; first = i .0; last = last };
+      form = ap (λ (b : ℕ). fitOf (e .conversion) (kindIn b)) (sym byte) ∙ i .2;
+    }
 
--- What is handed out for an entry prints as the text that it names: no form but that of kind 7 looks at it.
-pub entry-shown : (row : List ℕ) (e : Element) (x : Entry)
-    → valueText e (formOf (e .conversion) (x .kind)) x (cutTo (e .precision) (handedOut row x)) ≡ shownEntry row e x
-unfolding elementText handedOut
-entry-shown row e x =
-    form-of (λ f. valueText e f x (cutTo (e .precision) (handedOut row x)) ≡ valueText e f x (cutTo (e .precision) (namedText row x))) (λ _. Unit {0})
-    refl (λ f k _. refl) refl refl (λ t. refl) (e .conversion) (x .kind)
-    (λ q. simp q) (any-integer (x .kind))
+-- Text is the form of texts alone.
+abbrev isText : Form → Bool
+isText (F.Integer f k) = false
+isText F.HexFloat = false
+isText F.Boolean = false
+isText F.Text = true
+isText (F.Time x) = false
+isText F.NotPrinted = false
+
+pub text-kind : (c : ConversionType) (k : Kind) → fitOf c k ≡ Fits F.Text → k ≡ K.Text
+text-kind c k q =
+    subst (OfForm (λ f. f ≡ F.Text → k ≡ K.Text)) q
+    (form-of (λ k f. f ≡ F.Text → k ≡ K.Text) (λ k h. absurd (true≢false (sym (ap isText h)))) (λ f k h. absurd (true≢false (sym (ap isText h)))) (λ h. absurd (true≢false (sym (ap isText h)))) (λ h. absurd (true≢false (sym (ap isText h))))
+    (λ h. refl) (λ x h. absurd (true≢false (sym (ap isText h)))) c k) refl

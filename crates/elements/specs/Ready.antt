@@ -8,8 +8,11 @@ use Rattle.refusals.specs.Limits.{mostFormat}
 use Rattle.parsing.specs.Covers.{PieceIn}
 use Rattle.parsing.specs.declared.Piece.{Piece}
 use Rattle.fields.specs.Cut.{cutTo}
-use Rattle.rows.specs.Row.{kindsOf, isRow}
-use Rattle.rows.specs.Arguments.{InRow, handedOut}
+use Rattle.kinds.specs.Kinds.{fitOf}
+use Rattle.kinds.specs.declared.Fit.the-variants.{Fits}
+use Rattle.specifiers.specs.declared.Element.{Element}
+use Rattle.rows.specs.Row.{kindsOf, entryAt, namedText, isRow}
+use Rattle.rows.specs.Arguments.{Argument, Names}
 use Rattle.elements.specs.declared.pieces.Source.{Source}
 use Rattle.elements.specs.declared.pieces.Source.the-variants.{Format, Row}
 
@@ -19,13 +22,18 @@ pub record Ready (s row : List ℕ) (p : Piece) : Type 0 where
   pub kept : isRow row ≡ true
   pub inside : PieceIn s (kindsOf row) p
 
+-- An element that takes an argument of the row, and has the form of its kind.
+pub record Suited (row : List ℕ) (e : Element) : Type 0 where
+  pub argument : Argument row (e .argument)
+  pub form : fitOf (e .conversion) (entryAt row (e .argument) .kind) ≡ Fits (e .form)
+
 -- 01: "The unpadded text of a piece is part of the format or part of the row for fixed text, `%%` and text values under %s, and is handed out from
--- there": of an entry, what a precision leaves of the text that it names, before capitals.
+-- there": of an entry of kind 7, what a precision leaves of the text that it names, before capitals.
 unfoldable pub unpadded : List ℕ → List ℕ → Source → List ℕ
 unpadded s row (Format begin len) = take len (drop begin s)
-unpadded s row (Row x p) = cutTo p (handedOut row x)
+unpadded s row (Row x p) = cutTo p (namedText row x)
 
 -- That a source lies in the format, or in the row.
 abbrev pub SourceIn : List ℕ → List ℕ → Source → Type 0
 SourceIn s row (Format begin len) = (begin + len ≤ length s) × (length s ≤ mostFormat)
-SourceIn s row (Row x p) = InRow row x
+SourceIn s row (Row x p) = Names row x

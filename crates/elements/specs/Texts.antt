@@ -13,7 +13,6 @@ use Rattle.binary64.specs.Fields.{negative, categoryOf}
 use Rattle.binary64.specs.declared.FpCategory.{FpCategory}
 use Rattle.binary64.specs.declared.FpCategory.the-variants as C
 use Rattle.kinds.specs.declared.letters.TimeFormat.{TimeFormat}
-use Rattle.kinds.specs.Kinds.{formOf}
 use Rattle.kinds.specs.declared.IntegerKind.{IntegerKind}
 use Rattle.kinds.specs.declared.IntegerForm.{IntegerForm}
 use Rattle.kinds.specs.declared.IntegerForm.the-variants.{Numeral, Scalar, Digits}
@@ -70,7 +69,7 @@ valueText e F.NotPrinted x part = Stops 15
 
 -- An element for the entry x, of which `named` is the text that it names, if it is of kind 7.
 unfoldable pub elementText : Element → Entry → List ℕ → Shown
-elementText e x named = valueText e (formOf (e .conversion) (x .kind)) x (cutTo (e .precision) named)
+elementText e x named = valueText e (e .form) x (cutTo (e .precision) named)
 
 -- The text of what is printed, and the number of what is not.
 abbrev pub textOf : Shown → List ℕ

@@ -10,17 +10,19 @@ use kinds::Form;
 use kinds::IntegerForm;
 use kinds::IntegerKind;
 use kinds::letters::TimeFormat;
-use rows::entries::Entry;
+use pieces::Source;
 use specifiers::Element;
 ghost use Prim.Native.Nat.{_^_, _<_};
 ghost use lib.ListN.{length};
 ghost use Rattle.writing.specs.Writers.{Put};
 ghost use Rattle.numerals.specs.Integers.{intOf, integerOf};
 ghost use Rattle.binary64.specs.Fields.{categoryOf};
-ghost use Rattle.kinds.specs.Kinds.{formOf};
+ghost use Rattle.rows.specs.Row.{entryAt};
 ghost use Rattle.fields.specs.Texts.{formatString};
-ghost use Rattle.elements.specs.Texts.{charText, floatText, integerText, timeText, booleanWord, valueText};
+ghost use Rattle.elements.specs.Texts.{charText, floatText, integerText, timeText, booleanWord};
 ghost use Rattle.elements.specs.Sizes.{Sized};
+ghost use Rattle.elements.specs.PieceTexts.{shownEntry};
+ghost use Rattle.elements.specs.Ready.{Suited};
 
 // The length of a text, or the number that stops it.
 pub enum Size {
@@ -111,28 +113,35 @@ fn format_time(out: &mut [u8], component: TimeFormat, value: u64, upper: bool) -
     Size::Bytes(dates::put_component(out, component, value, false) as u64)
 }
 
-// Writes an element for a row's entry where there is room for it; part is the unpadded text that the entry names.
-fn put_element(out: &mut [u8], e: Element, entry: Entry, part: &[u8]) -> Size
-    requires { ⌜ length (now part) < 2 ^ 32 ⌝ }
-    ensures { λ r. ⌜ Sized (now (out .entry)) (valueText e (formOf (e .conversion) (entry .kind)) entry (now (part .entry))) r (now (out .exit)) ⌝ }
+// Writes an element where there is room for it.
+fn put_element<'a>(out: &mut [u8], fmt: &'a [u8], row: &'a [u8], e: Element) -> Size
+    requires { ⌜ Suited (now row) e ⌝ }
+    ensures { λ r. ⌜ Sized (now (out .entry)) (shownEntry (now (row .entry)) e (entryAt (now (row .entry)) (e .argument))) r (now (out .exit)) ⌝ }
 {
-    let conversion = e.conversion;
-    let kind = entry.kind;
+    let entry = rows::entry(row, e.argument);
     let value = entry.value;
-    let form = kinds::form_of(conversion, kind);
+    let form = e.form;
     match form {
         Form::Integer {
             form: written,
-            kind: integer,
+            kind,
         } => {
             if entry.null {
                 return Size::Bytes(fields::format_string(out, e, b"null"));
             }
-            format_integer(out, e, written, integer, value)
+            format_integer(out, e, written, kind, value)
         }
         Form::HexFloat => Size::Bytes(format_hex_float(out, e, value)),
         Form::Boolean => Size::Bytes(format_boolean(out, e, value)),
-        Form::Text => Size::Bytes(fields::put_padded(out, e, Mark::NoMark, part)),
+        Form::Text => {
+            let precision = e.precision;
+            let source = Source::Row {
+                entry: entry,
+                precision: precision,
+            };
+            let text = pieces::unpadded_text(fmt, row, source);
+            Size::Bytes(fields::put_padded(out, e, Mark::NoMark, text))
+        }
         Form::Time(component) => format_time(out, component, value, e.upper),
         Form::NotPrinted => Size::Stops(refusals::NOT_PRINTED),
     }

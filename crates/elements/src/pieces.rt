@@ -4,17 +4,14 @@ use crate::Size;
 use numerals::NumericParam;
 use parsing::Piece;
 use rows::entries::Entry;
-use specifiers::Element;
 ghost use mathlib.Core.Path.{_≡_};
 ghost use Prim.Native.Nat.{_^_, _<_};
 ghost use lib.ListN.{length};
 ghost use Rattle.elements.specs.Sizes.{Sized};
-ghost use Rattle.rows.specs.Row.{entryAt};
-ghost use Rattle.rows.specs.Arguments.{Argument};
-ghost use Rattle.elements.specs.PieceTexts.{shownEntry, shownPiece};
+ghost use Rattle.elements.specs.PieceTexts.{shownPiece};
 ghost use Rattle.elements.specs.Ready.{Ready, SourceIn, unpadded};
 
-// Where an unpadded text lies: in the format, or in the row, where an entry may name one.
+// Where an unpadded text lies: in the format, or in the row, where an entry of kind 7 names one.
 pub enum Source {
     Format {
         start: usize,
@@ -26,8 +23,8 @@ pub enum Source {
     },
 }
 
-// The unpadded text that lies there; of an entry that names no text it is empty.
-fn unpadded_text<'a>(fmt: &'a [u8], row: &'a [u8], source: Source) -> &'a [u8]
+// The unpadded text that lies there.
+pub(crate) fn unpadded_text<'a>(fmt: &'a [u8], row: &'a [u8], source: Source) -> &'a [u8]
     requires { ⌜ SourceIn (now fmt) (now row) source ⌝ }
     ensures { λ r. ⌜ (now r ≡ unpadded (now (fmt .entry)) (now (row .entry)) source) × (length (now r) < 2 ^ 32) ⌝ }
 {
@@ -37,20 +34,6 @@ fn unpadded_text<'a>(fmt: &'a [u8], row: &'a [u8], source: Source) -> &'a [u8]
             fields::strings::cut(precision, rows::named_text(row, entry))
         }
     }
-}
-
-// Writes an element where there is room for it.
-fn put_argument<'a>(out: &mut [u8], fmt: &'a [u8], row: &'a [u8], e: Element) -> Size
-    requires { ⌜ Argument (now row) (e .argument) ⌝ }
-    ensures { λ r. ⌜ Sized (now (out .entry)) (shownEntry (now (row .entry)) e (entryAt (now (row .entry)) (e .argument))) r (now (out .exit)) ⌝ }
-{
-    let entry = rows::entry(row, e.argument);
-    let precision = e.precision;
-    let source = Source::Row {
-        entry: entry,
-        precision: precision,
-    };
-    crate::put_element(out, e, entry, unpadded_text(fmt, row, source))
 }
 
 // Writes a piece's text where there is room for it; else writes nothing. Returns its length either way, or the number that stops it.
@@ -67,6 +50,6 @@ pub fn put_piece<'a>(out: &mut [u8], fmt: &'a [u8], row: &'a [u8], piece: Piece)
             Size::Bytes(writing::put_text(out, unpadded_text(fmt, row, source)) as u64)
         }
         Piece::Byte(b) => Size::Bytes(writing::put_byte(out, b) as u64),
-        Piece::Element(e) => put_argument(out, fmt, row, e),
+        Piece::Element(e) => crate::put_element(out, fmt, row, e),
     }
 }

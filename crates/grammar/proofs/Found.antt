@@ -9,9 +9,9 @@ use native.Mathlib.Omega.{arith}
 use lib.Dec.{eqb}
 use lib.ListN.{length, getD, drop, length-append, length-drop}
 use Rattle.writing.specs.Text.{ascii}
-use Rattle.kinds.specs.Kinds.{kindIn}
+use Rattle.kinds.specs.Kinds.{kindIn, fitOf}
 use Rattle.specifiers.specs.Flags.{flagsOf}
-use Rattle.specifiers.specs.Specifier.{beginsWith, letterFrom, specifierAt}
+use Rattle.specifiers.specs.Specifier.{beginsWith, specifierAt}
 use Rattle.specifiers.specs.declared.Element.{Element}
 use Rattle.specifiers.specs.declared.LetterTaken.the-variants as L
 use Rattle.specifiers.specs.declared.Specifier.the-variants as S
@@ -31,7 +31,7 @@ use Rattle.grammar.specs.Elements as E
 use Rattle.grammar.specs.Pieces.{IsLast, At, paramRead, precisionRead, PieceIs}
 use Rattle.grammar.specs.Pieces as Q
 use Rattle.grammar.proofs.Runs.{leading, notPercent, leading-is, text-leading}
-use Rattle.grammar.proofs.Letters.{never}
+use Rattle.grammar.proofs.Letters.{never, IsFit, is-fit}
 use Rattle.grammar.proofs.Places.{drop-behind}
 use Rattle.grammar.proofs.Steps.{KindsKnown, specifier-step, first-argument, so-far, named-so, is-letter, same-fit, read-letter}
 
@@ -58,7 +58,7 @@ pub record Finds (s ks : List ℕ) (c : Cursor) (before : List Part) (p : Part) 
   pub next : Cursor
   pub found : pieceAt s ks c ≡ Found piece next
   pub left : drop (next .at) s ≡ rest
-  pub is : PieceIs (c .at) piece p
+  pub is : PieceIs ks (c .at) piece p
   pub at : At (p ∷ before) next
 
 module _ (s ks : List ℕ) (c : Cursor) (before : List Part) (at : At before c) (inside : c .at < length s) where
@@ -140,6 +140,9 @@ module _ (s ks : List ℕ) (c : Cursor) (before : List Part) (at : At before c) 
 
   module _ (known : KindsKnown ks) (r : List ℕ) (here : drop (c .at) s ≡ r) {w : Written} {rest : List ℕ} (x : Lettered (length ks) before r w rest)
       (fit : fitsBytes (w .letter) (kindAt ks (w .argument)) ≡ true) where
+    form-found : IsFit (fitOf (is-letter s ks c before at r here known x .conversion) (kindIn (getD ks (w .argument - 1) 0)))
+    form-found = is-fit _ (same-fit s ks c before at r here known x ∙ fit)
+
     holds : Element
     holds = record {
       argument = w .argument;
@@ -148,6 +151,7 @@ module _ (s ks : List ℕ) (c : Cursor) (before : List Part) (at : At before c) 
       precision = precisionRead (w .precision);
       conversion = is-letter s ks c before at r here known x .conversion;
       upper = is-letter s ks c before at r here known x .upper;
+      form = form-found .form;
     }
 
     behind : Cursor
@@ -163,7 +167,7 @@ module _ (s ks : List ℕ) (c : Cursor) (before : List Part) (at : At before c) 
         let h = so-far s ks c before at r here known x .width .flags .argued in
         let n = named-so s ks c before at r here known x in
         let q : specifierAt s (h .next) (w .argument) (kindIn (getD ks (w .argument - 1) 0)) ≡ S.Read holds (behind .at) =
-        read-letter s ks c before at r here known x ∙ simp (same-fit s ks c before at r here known x ∙ fit) in
+        read-letter s ks c before at r here known x ∙ simp (form-found .is) in
         specifier-step s ks c before at r here n h ∙ ap (afterSpecifier (w .argument) (countedBy (w .choice) (c .count))) q
 
     pub element-finds : Finds s ks c before (element w) rest
@@ -173,7 +177,6 @@ module _ (s ks : List ℕ) (c : Cursor) (before : List Part) (at : At before c) 
         let n = named-so s ks c before at r here known x in
         let left = drop-behind s (l .place) (w .letter) rest (l .left) in
         let first = first-argument s ks c before at r here n (l .width .flags .argued) in
-        let z : 0 + length (w .letter) ≡ length (w .letter) = omega arith in
         let y = is-letter s ks c before at r here known x in
         record {
           piece = AnElement holds;
@@ -190,10 +193,8 @@ module _ (s ks : List ℕ) (c : Cursor) (before : List Part) (at : At before c) 
                 conversion = y .is .named;
                 component = y .is .component;
                 upper = y .is .capital;
-                letter =
-                    ap (λ (l : List ℕ). letterFrom l 0) (sym (append-nil (w .letter)))
-                    ∙ y .is .read [] 0
-                    ∙ ap (L.Read (y .conversion) (y .upper)) z;
+                letter = x .letter;
+                form = form-found .is;
               });
           at = next-at {p = element w} rest element-found (here ∙ element-bytes x) left refl (last-next (n .begun .names) first);
         }

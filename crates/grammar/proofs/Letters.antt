@@ -12,10 +12,14 @@ use Rattle.writing.specs.Choose.{choose}
 use Rattle.writing.specs.Text.{ascii, has}
 use Rattle.writing.proofs.Choose.{by-test, both}
 use Rattle.kinds.specs.Letters.{lookup, timeLetters as timeTable, timeOf, smallLetters, smallOf, capitalLetters, capitalOf}
-use Rattle.kinds.specs.Kinds.{kinds as table, kindOf, isKnown, isTimestamp, fits}
+use Rattle.kinds.specs.Kinds.{kinds as table, kindOf, isKnown, fitOf}
 use Rattle.kinds.specs.declared.letters.ConversionType.{ConversionType}
 use Rattle.kinds.specs.declared.letters.ConversionType.the-variants.{Time}
 use Rattle.kinds.specs.declared.Kind.the-variants.{NoKind}
+use Rattle.kinds.specs.declared.Form.{Form}
+use Rattle.kinds.specs.declared.Fit.{Fit}
+use Rattle.kinds.specs.declared.Fit.the-variants.{Fits, Unfit}
+use Rattle.kinds.specs.declared.letters.TimeFormat.{TimeFormat}
 use Rattle.kinds.specs.declared.letters.Letter.{Letter}
 use Rattle.kinds.specs.declared.letters.Letter.the-variants.{Conversion, NoConversion}
 use Rattle.kinds.specs.declared.letters.TimeLetter.{TimeLetter}
@@ -61,8 +65,25 @@ abbrev wasRead : LetterTaken → Bool
 wasRead (L.Read c u at) = true
 wasRead (L.Refused n) = false
 
+abbrev pub isFit : Fit → Bool
+isFit (Fits f) = true
+isFit Unfit = false
+
+-- the form of what fits
+pub record IsFit (f : Fit) : Type 0 where
+  pub form : Form
+  pub is : f ≡ Fits form
+
+pub is-fit : (f : Fit) → isFit f ≡ true → IsFit f
+is-fit (Fits f) e = record { form = f; is = refl }
+is-fit Unfit e = absurd (never e)
+
+pub is-unfit : (f : Fit) → isFit f ≡ false → f ≡ Unfit
+is-unfit (Fits f) e = absurd (never (sym e))
+is-unfit Unfit e = refl
+
 abbrev fitsRead : LetterTaken → ℕ → Bool
-fitsRead (L.Read c u at) k = fits c (kindOf k)
+fitsRead (L.Read c u at) k = isFit (fitOf c (kindOf k))
 fitsRead (L.Refused n) k = false
 
 abbrev pub same : Bool → Bool → Bool
@@ -106,7 +127,7 @@ all-times = refl
 -- A letter is read, behind the place where it stands; it fits a kind as the table says.
 pub record LetterIs (x : List ℕ) (c : ConversionType) (u : Bool) : Type 0 where
   pub read : (rest : List ℕ) (at : ℕ) → letterFrom (x ++ rest) at ≡ L.Read c u (at + length x)
-  pub fits-as : (k : ℕ) → has kinds k ≡ true → fitsBytes x k ≡ fits c (kindOf k)
+  pub fits-as : (k : ℕ) → has kinds k ≡ true → fitsBytes x k ≡ isFit (fitOf c (kindOf k))
   pub named : begins (has (lettersOf c)) x ≡ true
   pub component : namesComponent c (drop 1 x) ≡ true
   pub capital : u ≡ begins (has capitals) x
@@ -193,12 +214,13 @@ second t h rest at = go (eqb t (code "t")) (eqb t (code "T")) refl refl (either-
     go false false p q e = absurd (never e)
 
 -- what the table of fit says of t and T
-time-fits : (t k : ℕ) → has (ascii "tT") t ≡ true → has kinds k ≡ true → inTable needs t k ≡ isTimestamp (kindOf k)
+time-fits : (t k : ℕ) (y : TimeFormat) → has (ascii "tT") t ≡ true → has kinds k ≡ true → inTable needs t k ≡ isFit (fitOf (Time y) (kindOf k))
 unfolding all has kindOf
-time-fits t k h i =
-    same-is (inTable needs t k) (isTimestamp (kindOf k))
-    (all-has (λ k. same (inTable needs t k) (isTimestamp (kindOf k))) kinds k
-    (all-has (λ t. all (λ k. same (inTable needs t k) (isTimestamp (kindOf k))) kinds) (ascii "tT") t refl h) i)
+time-fits t k y h i =
+    let fit : ℕ → Bool = λ k. isFit (fitOf (Time y) (kindOf k)) in
+    same-is (inTable needs t k) (fit k)
+    (all-has (λ k. same (inTable needs t k) (fit k)) kinds k
+    (all-has (λ t. all (λ k. same (inTable needs t k) (fit k)) kinds) (ascii "tT") t refl h) i)
 
 time-capital : (t : ℕ) → has (ascii "tT") t ≡ true → eqb t (code "T") ≡ has capitals t
 unfolding all has
@@ -213,7 +235,7 @@ time-letter t l h i = go (timeOf l) refl (all-has (λ b. namesTime (timeOf b) b)
       upper = eqb t (code "T");
       is = record {
         read = λ rest at. second t h (l ∷ rest) at ∙ ap (λ (x : TimeLetter). timeLetter (eqb t (code "T")) x at) p;
-        fits-as = λ k i. time-fits t k h i;
+        fits-as = λ k i. time-fits t k y h i;
         named = h;
         component = r;
         capital = time-capital t h;

@@ -78,7 +78,7 @@ module _ (s ks : List ℕ) (known : KindsKnown ks) where
     pub at : At before c
     pub here : drop (c .at) s ≡ r
     pub pieces : List Placed
-    pub lists : Lists pieces before
+    pub lists : Lists ks pieces before
     pub end : ended s ks ≡ endFrom (mostPieces - length before) (pieceAt s ks) (length s) c
     pub all : placed s ks ≡ pieces ++ placedFrom (mostPieces - length before) (pieceAt s ks) (length s) c
 
@@ -130,7 +130,7 @@ module _ (s ks : List ℕ) (known : KindsKnown ks) where
       at = f .at;
       here = f .left;
       pieces = w .pieces ++ (listed ∷ []);
-      lists = Q.one (w .lists) (subst (λ (n : ℕ). PieceIs n (f .piece) p) (w .at .place) (f .is)) (w .at .place) (f .at .place);
+      lists = Q.one (w .lists) (subst (λ (n : ℕ). PieceIs ks n (f .piece) p) (w .at .place) (f .is)) (w .at .place) (f .at .place);
       end = w .end ∙ found-end;
       all =
           w .all ∙ ap (λ (l : List Placed). w .pieces ++ l) found-rest
@@ -168,7 +168,7 @@ module _ (s ks : List ℕ) (known : KindsKnown ks) where
   -- A format made of parts is read to its end, and its pieces are these.
   pub record Read (parts : List Part) : Type 0 where
     pub finished : ended s ks ≡ Finished
-    pub lists : Lists (placed s ks) parts
+    pub lists : Lists ks (placed s ks) parts
 
   pub read-whole : {parts : List Part} → Whole s ks parts → Read parts
   read-whole {parts} w =
@@ -177,7 +177,7 @@ module _ (s ks : List ℕ) (known : KindsKnown ks) where
       record {
         finished = k .end ∙ end-past (pieceAt s ks) (length s) m (k .c) (none-left k);
         lists =
-            subst (λ (l : List Placed). Lists l parts)
+            subst (λ (l : List Placed). Lists ks l parts)
             (sym (k .all ∙ ap (λ (l : List Placed). k .pieces ++ l) (placed-past (pieceAt s ks) (length s) m (k .c) (none-left k)) ∙ append-nil (k .pieces)))
             (k .lists);
       }

@@ -10,7 +10,7 @@ use lib.ListN.{length, getD, drop}
 use borrow.Author.Tests.{eq-eqb, lt-leb}
 use Rattle.writing.specs.Text.{ascii, has}
 use Rattle.specifiers.specs.Params.{isDigit}
-use Rattle.kinds.specs.Kinds.{kindIn, fits}
+use Rattle.kinds.specs.Kinds.{kindIn, fitOf}
 use Rattle.specifiers.specs.Flags.{flagsOf}
 use Rattle.specifiers.specs.Specifier.{beginsWith, afterLetter, specifierAt}
 use Rattle.specifiers.specs.declared.LetterTaken.the-variants as L
@@ -27,7 +27,7 @@ use Rattle.grammar.specs.Elements.{kinds, Names, by-last, by-index, by-c
 use Rattle.grammar.specs.Faults as K
 use Rattle.grammar.specs.Faults.{Fault}
 use Rattle.grammar.specs.Pieces.{IsLast, At, paramRead, precisionRead}
-use Rattle.grammar.proofs.Letters.{SomeLetter, letter-is, no-letter-is, no-time-is}
+use Rattle.grammar.proofs.Letters.{isFit, is-unfit, SomeLetter, letter-is, no-letter-is, no-time-is}
 use Rattle.grammar.proofs.Places.{drop-behind, index-begins}
 use Rattle.grammar.proofs.Choices.{begins-with, begins-none, same-step, index-large}
 use Rattle.grammar.proofs.Sections.{argument-chosen, Argued, argued, flags-taken, width-taken, PartsRead, parts-taken}
@@ -83,7 +83,7 @@ module _ (s ks : List ℕ) (c : Cursor) (before : List Part) (at : At before c) 
       pub is-letter : SomeLetter (w .letter)
       is-letter = letter-is (x .letter)
 
-      pub same-fit : fits (is-letter .conversion) (kindIn (getD ks (w .argument - 1) 0)) ≡ fitsBytes (w .letter) (kindAt ks (w .argument))
+      pub same-fit : isFit (fitOf (is-letter .conversion) (kindIn (getD ks (w .argument - 1) 0))) ≡ fitsBytes (w .letter) (kindAt ks (w .argument))
       same-fit =
           sym (is-letter .is .fits-as (kindAt ks (w .argument))
           (known (w .argument) (first-argument named-so (so-far .width .flags .argued)) (named-so .exists)))
@@ -97,7 +97,9 @@ module _ (s ks : List ℕ) (c : Cursor) (before : List Part) (at : At before c) 
           ∙ ap (afterLetter (w .argument) (kindIn (getD ks (w .argument - 1) 0)) _) (is-letter .is .read rest (so-far .place))
 
       no-fit-step : fitsBytes (w .letter) (kindAt ks (w .argument)) ≡ false → pieceAt s ks c ≡ Refused 12
-      no-fit-step n = refused-step named-so (so-far .width .flags .argued) 12 (read-letter ∙ simp (same-fit ∙ n))
+      no-fit-step n =
+          let unfit = is-unfit (fitOf (is-letter .conversion) (kindIn (getD ks (w .argument - 1) 0))) (same-fit ∙ n) in
+          refused-step named-so (so-far .width .flags .argued) 12 (read-letter ∙ simp unfit)
 
   pub fault-step : KindsKnown ks → (r : List ℕ) → drop (c .at) s ≡ r → (number : ℕ) → Fault ks before r number → pieceAt s ks c ≡ Refused number
   unfolding argumentAt indexAt has

@@ -14,14 +14,15 @@ use Rattle.kinds.specs.declared.letters.TimeFormat.the-variants as T
 use Rattle.kinds.specs.declared.letters.ConversionType.{ConversionType}
 use Rattle.kinds.specs.declared.letters.ConversionType.the-variants as C
 use Rattle.numerals.specs.declared.NumericParam.the-variants.{Literal, FromArgument}
-use Rattle.specifiers.specs.Specifier.{letterFrom}
 use Rattle.specifiers.specs.declared.Element.{Element}
-use Rattle.specifiers.specs.declared.LetterTaken.the-variants as L
 use Rattle.parsing.specs.Listed.{Placed}
 use Rattle.parsing.specs.declared.Cursor.{Cursor}
 use Rattle.parsing.specs.declared.Piece.{Piece}
 use Rattle.parsing.specs.declared.Piece.the-variants.{Fixed, Byte, Element as AnElement}
+use Rattle.kinds.specs.Kinds.{kindOf, fitOf}
+use Rattle.kinds.specs.declared.Fit.the-variants.{Fits}
 use Rattle.grammar.specs.Runs.{begins, numberIn}
+use Rattle.grammar.specs.Elements.{IsLetter, kindAt}
 use Rattle.grammar.specs.Parts.{Written, Part, text, percent, newline, element, bytesBefore, countedIn, lastNamed}
 
 -- The argument that `%<` takes, as a cursor has it: 0 for none.
@@ -103,9 +104,9 @@ namesComponent (C.Time t) behind = begins (has (componentLetters t)) behind
 abbrev pub capitals : List ℕ
 capitals = ascii "BHSCXEGAT"
 
--- An element holds what is written: which flags occur, its numbers, the conversion of its letter, of t and T the component, and whether it is a capital.
--- (`letter` is the parser's own reading of the letter.)
-pub record ElementIs (e : Element) (w : Written) : Type 0 where
+-- An element holds what is written: which flags occur, its numbers, the conversion of its letter, of t and T the component, whether it is a capital, and the
+-- form in which the letter prints the kind of its argument.
+pub record ElementIs (ks : List ℕ) (e : Element) (w : Written) : Type 0 where
   pub argument : e .argument ≡ w .argument
   pub flags : e .flags
       ≡ record {
@@ -122,17 +123,18 @@ pub record ElementIs (e : Element) (w : Written) : Type 0 where
   pub conversion : begins (has (lettersOf (e .conversion))) (w .letter) ≡ true
   pub component : namesComponent (e .conversion) (drop 1 (w .letter)) ≡ true
   pub upper : e .upper ≡ begins (has capitals) (w .letter)
-  pub letter : letterFrom (w .letter) 0 ≡ L.Read (e .conversion) (e .upper) (length (w .letter))
+  pub letter : IsLetter (w .letter)
+  pub form : fitOf (e .conversion) (kindOf (kindAt ks (w .argument))) ≡ Fits (e .form)
 
 -- A piece that begins at the place `at`: text, the second `%` of `%%`, byte 10 for `%n`, or an element.
-pub data PieceIs (at : ℕ) : Piece → Part → Type 0 where
-  is-text : {begin len : ℕ} {t : List ℕ} → begin ≡ at → len ≡ length t → PieceIs at (Fixed begin len) (text t)
-  is-percent : {begin len : ℕ} → begin ≡ at + 1 → len ≡ 1 → PieceIs at (Fixed begin len) percent
-  is-newline : {b : ℕ} → b ≡ 10 → PieceIs at (Byte b) newline
-  is-element : {e : Element} {w : Written} → ElementIs e w → PieceIs at (AnElement e) (element w)
+pub data PieceIs (ks : List ℕ) (at : ℕ) : Piece → Part → Type 0 where
+  is-text : {begin len : ℕ} {t : List ℕ} → begin ≡ at → len ≡ length t → PieceIs ks at (Fixed begin len) (text t)
+  is-percent : {begin len : ℕ} → begin ≡ at + 1 → len ≡ 1 → PieceIs ks at (Fixed begin len) percent
+  is-newline : {b : ℕ} → b ≡ 10 → PieceIs ks at (Byte b) newline
+  is-element : {e : Element} {w : Written} → ElementIs ks e w → PieceIs ks at (AnElement e) (element w)
 
 -- The pieces listed are the parts, each from its first byte to its last; the last of the parts stands first.
-pub data Lists : List Placed → List Part → Type 0 where
-  nothing : Lists [] []
-  one : {ps : List Placed} {before : List Part} {x : Placed} {p : Part} → Lists ps before → PieceIs (length (bytesBefore before)) (x .piece) p
-      → x .from ≡ length (bytesBefore before) → x .to ≡ length (bytesBefore (p ∷ before)) → Lists (ps ++ (x ∷ [])) (p ∷ before)
+pub data Lists (ks : List ℕ) : List Placed → List Part → Type 0 where
+  nothing : Lists ks [] []
+  one : {ps : List Placed} {before : List Part} {x : Placed} {p : Part} → Lists ks ps before → PieceIs ks (length (bytesBefore before)) (x .piece) p
+      → x .from ≡ length (bytesBefore before) → x .to ≡ length (bytesBefore (p ∷ before)) → Lists ks (ps ++ (x ∷ [])) (p ∷ before)

@@ -1,10 +1,9 @@
--- A law of the tables: what holds of every form holds of the form of a kind. Assumes nothing.
+-- A law of the table: what holds of every form holds of the form in which a kind is printed. Assumes nothing.
 use mathlib.Core.Path.{_≡_, refl}
-use mathlib.Core.Bool.{Bool, true, false}
 use Rattle.kinds.specs.declared.letters.TimeFormat.{TimeFormat}
 use Rattle.kinds.specs.declared.letters.ConversionType.{ConversionType}
 use Rattle.kinds.specs.declared.letters.ConversionType.the-variants as C
-use Rattle.kinds.specs.Kinds.{isFloat, isBoolean, isTimestamp, integerForm, onlyIf, formOf}
+use Rattle.kinds.specs.Kinds.{integersAlone, fitOf}
 use Rattle.kinds.specs.declared.IntegerKind.{IntegerKind}
 use Rattle.kinds.specs.declared.Kind.{Kind}
 use Rattle.kinds.specs.declared.Kind.the-variants as K
@@ -12,55 +11,62 @@ use Rattle.kinds.specs.declared.IntegerForm.{IntegerForm}
 use Rattle.kinds.specs.declared.IntegerForm.the-variants.{Numeral, Scalar, Digits}
 use Rattle.kinds.specs.declared.Form.{Form}
 use Rattle.kinds.specs.declared.Form.the-variants as F
+use Rattle.kinds.specs.declared.Fit.{Fit}
+use Rattle.kinds.specs.declared.Fit.the-variants.{Fits, Unfit}
 
-only-if : (P : Form → Type 0) (t : Bool) (f : Form) → P F.NotPrinted → P f → P (onlyIf t f)
-only-if P true f n h = h
-only-if P false f n h = n
+-- What is claimed of the form of what fits.
+abbrev pub OfForm : (Form → Type 0) → Fit → Type 0
+OfForm P (Fits f) = P f
+OfForm P Unfit = Unit {0}
 
--- What is claimed of the integer kinds alone.
-abbrev pub OfInteger : (IntegerKind → Type 0) → Kind → Type 0
-OfInteger Q (K.Integer k) = Q k
-OfInteger Q K.Float64 = Unit {0}
-OfInteger Q K.Boolean = Unit {0}
-OfInteger Q K.Text = Unit {0}
-OfInteger Q K.Timestamp = Unit {0}
-OfInteger Q K.NoKind = Unit {0}
+-- A claim of forms holds of the form of a kind where it holds of an integer of that kind, of a float, a Boolean, a text and a component of a date, each for its
+-- kind, and of what is not printed.
+module _ (P : Kind → Form → Type 0) (n : (k : Kind) → P k F.NotPrinted) (i : (f : IntegerForm) (k : IntegerKind) → P (K.Integer k) (F.Integer f k))
+    (h : P K.Float64 F.HexFloat) (b : P K.Boolean F.Boolean) (t : P K.Text F.Text) (d : (x : TimeFormat) → P K.Timestamp (F.Time x)) where
+  integer : (f : IntegerForm) (k : Kind) → OfForm (P k) (integersAlone f k)
+  integer f (K.Integer k) = i f k
+  integer f K.Float64 = tt
+  integer f K.Boolean = tt
+  integer f K.Text = tt
+  integer f K.Timestamp = tt
+  integer f K.NoKind = tt
 
--- Where nothing is claimed, it holds of every kind.
-pub any-integer : (k : Kind) → OfInteger (λ _. Unit {0}) k
-any-integer (K.Integer k) = tt
-any-integer K.Float64 = tt
-any-integer K.Boolean = tt
-any-integer K.Text = tt
-any-integer K.Timestamp = tt
-any-integer K.NoKind = tt
-
--- A claim of forms holds of the form of a kind where it holds of an integer in each kind of which Q holds, of a text for texts alone, and of every
--- component of a date.
-module _ (P : Form → Type 0) (Q : IntegerKind → Type 0) (n : P F.NotPrinted) (i : (f : IntegerForm) (k : IntegerKind) → Q k → P (F.Integer f k))
-    (h : P F.HexFloat) (b : P F.Boolean) (d : (x : TimeFormat) → P (F.Time x)) where
-  integer : (f : IntegerForm) (k : Kind) → OfInteger Q k → P (integerForm f k)
-  integer f (K.Integer k) q = i f k q
-  integer f K.Float64 q = n
-  integer f K.Boolean q = n
-  integer f K.Text q = n
-  integer f K.Timestamp q = n
-  integer f K.NoKind q = n
-
-  string : (k : Kind) → (k ≡ K.Text → P F.Text) → OfInteger Q k → P (formOf C.String k)
-  string (K.Integer k) t q = i Digits k q
-  string K.Float64 t q = n
-  string K.Boolean t q = n
-  string K.Text t q = t refl
-  string K.Timestamp t q = n
-  string K.NoKind t q = n
-
-  pub form-of : (c : ConversionType) (k : Kind) → (k ≡ K.Text → P F.Text) → OfInteger Q k → P (formOf c k)
-  form-of (C.Integer r) k t q = integer (Numeral r) k q
-  form-of C.Char k t q = integer Scalar k q
-  form-of C.String k t q = string k t q
-  form-of C.HexFloat k t q = only-if P (isFloat k) F.HexFloat n h
-  form-of C.Boolean k t q = only-if P (isBoolean k) F.Boolean n b
-  form-of C.DecimalFloat k t q = n
-  form-of (C.Time x) k t q = only-if P (isTimestamp k) (F.Time x) n (d x)
-  form-of C.HexHash k t q = n
+  pub form-of : (c : ConversionType) (k : Kind) → OfForm (P k) (fitOf c k)
+  form-of (C.Integer r) k = integer (Numeral r) k
+  form-of C.Char k = integer Scalar k
+  form-of C.String (K.Integer k) = i Digits k
+  form-of C.String K.Float64 = n K.Float64
+  form-of C.String K.Boolean = n K.Boolean
+  form-of C.String K.Text = t
+  form-of C.String K.Timestamp = n K.Timestamp
+  form-of C.String K.NoKind = tt
+  form-of C.HexFloat (K.Integer k) = n (K.Integer k)
+  form-of C.HexFloat K.Float64 = h
+  form-of C.HexFloat K.Boolean = tt
+  form-of C.HexFloat K.Text = tt
+  form-of C.HexFloat K.Timestamp = tt
+  form-of C.HexFloat K.NoKind = tt
+  form-of C.Boolean (K.Integer k) = tt
+  form-of C.Boolean K.Float64 = tt
+  form-of C.Boolean K.Boolean = b
+  form-of C.Boolean K.Text = tt
+  form-of C.Boolean K.Timestamp = tt
+  form-of C.Boolean K.NoKind = tt
+  form-of C.DecimalFloat (K.Integer k) = n (K.Integer k)
+  form-of C.DecimalFloat K.Float64 = n K.Float64
+  form-of C.DecimalFloat K.Boolean = tt
+  form-of C.DecimalFloat K.Text = tt
+  form-of C.DecimalFloat K.Timestamp = tt
+  form-of C.DecimalFloat K.NoKind = tt
+  form-of (C.Time x) (K.Integer k) = tt
+  form-of (C.Time x) K.Float64 = tt
+  form-of (C.Time x) K.Boolean = tt
+  form-of (C.Time x) K.Text = tt
+  form-of (C.Time x) K.Timestamp = d x
+  form-of (C.Time x) K.NoKind = tt
+  form-of C.HexHash (K.Integer k) = n (K.Integer k)
+  form-of C.HexHash K.Float64 = n K.Float64
+  form-of C.HexHash K.Boolean = n K.Boolean
+  form-of C.HexHash K.Text = n K.Text
+  form-of C.HexHash K.Timestamp = n K.Timestamp
+  form-of C.HexHash K.NoKind = tt

@@ -1,6 +1,6 @@
--- The kinds of value, which letters fit them, and how letters print them: two tables over conversions and kinds.
+-- The kinds of value, and one table over conversions and kinds: which letters fit them, and how these print them.
 use Prim.Native.Nat.{ℕ, _%_}
-use mathlib.Core.Bool.{Bool, true, false, _&&_, _||_}
+use mathlib.Core.Bool.{Bool, true, false, _&&_}
 use mathlib.Core.List.{List, [], _∷_}
 use lib.Dec.{leb}
 use Rattle.kinds.specs.Letters.{lookup}
@@ -11,8 +11,9 @@ use Rattle.kinds.specs.declared.Kind.{Kind}
 use Rattle.kinds.specs.declared.Kind.the-variants as K
 use Rattle.kinds.specs.declared.IntegerForm.{IntegerForm}
 use Rattle.kinds.specs.declared.IntegerForm.the-variants.{Numeral, Scalar, Digits}
-use Rattle.kinds.specs.declared.Form.{Form}
 use Rattle.kinds.specs.declared.Form.the-variants.{Integer, HexFloat, Boolean, Text, Time, NotPrinted}
+use Rattle.kinds.specs.declared.Fit.{Fit}
+use Rattle.kinds.specs.declared.Fit.the-variants.{Fits, Unfit}
 
 -- 01: "Kinds: 1 to 4 signed integers of 8, 16, 32 and 64 bits ..; 5 Float64 ..; 6 Boolean ..; 7 text". 02, E1: "Add kind 8, .. a UTC timestamp".
 abbrev pub signedKind : ℕ → Kind
@@ -51,55 +52,23 @@ byKind integer float boolean text timestamp none K.NoKind = none
 abbrev pub isKnown : Kind → Bool
 isKnown k = byKind (λ _. true) true true true true false k
 
-abbrev pub isInteger : Kind → Bool
-isInteger k = byKind (λ _. true) false false false false false k
-
-abbrev pub isFloat : Kind → Bool
-isFloat k = byKind (λ _. false) true false false false false k
-
-abbrev pub isNumber : Kind → Bool
-isNumber k = isInteger k || isFloat k
-
-abbrev pub isBoolean : Kind → Bool
-isBoolean k = byKind (λ _. false) false true false false false k
-
-abbrev pub isText : Kind → Bool
-isText k = byKind (λ _. false) false false true false false k
-
-abbrev pub isTimestamp : Kind → Bool
-isTimestamp k = byKind (λ _. false) false false false true false k
-
 -- 01: "over 64 kinds, or a kind not 1 to 7"; with 02, E1, not 1 to 8.
 unfoldable pub allKnown : List ℕ → Bool
 allKnown [] = true
 allKnown (b ∷ bs) = isKnown (kindOf b) && allKnown bs
 
--- What fits. 01: "b needs 6; c, d, o, x need 1 to 4; e, f, g, a need 1 to 5; .. s and h take all." 02, E1: "Kind 8 fits t, T, s and h".
-abbrev pub fits : ConversionType → Kind → Bool
-fits C.Boolean k = isBoolean k
-fits C.Char k = isInteger k
-fits (C.Integer r) k = isInteger k
-fits C.DecimalFloat k = isNumber k
-fits C.HexFloat k = isNumber k
-fits (C.Time t) k = isTimestamp k
-fits C.String k = isKnown k
-fits C.HexHash k = isKnown k
+-- What fits, and how it is printed. 01, of what fits: "b needs 6; c, d, o, x need 1 to 4; e, f, g, a need 1 to 5; .. s and h take all"; 02, E1: "Kind 8 fits
+-- t, T, s and h". Of what is printed: integers by %d, %x, %o, %c and %s; %a is "the only" letter "printed for kind 5"; "%b of Boolean and %s of text are the
+-- only letters printed for kinds 6 and 7"; of kind 8 "only t and T print".
+abbrev pub integersAlone : IntegerForm → Kind → Fit
+integersAlone f k = byKind (λ i. Fits (Integer f i)) Unfit Unfit Unfit Unfit Unfit k
 
--- What prints. 01: integers by %d, %x, %o, %c and %s; %a is "the only" letter "printed for kind 5"; "%b of Boolean and %s of text are the only
--- letters printed for kinds 6 and 7". 02, E1, of kind 8: "only t and T print".
-abbrev pub integerForm : IntegerForm → Kind → Form
-integerForm f k = byKind (Integer f) NotPrinted NotPrinted NotPrinted NotPrinted NotPrinted k
-
-abbrev pub onlyIf : Bool → Form → Form
-onlyIf true f = f
-onlyIf false f = NotPrinted
-
-abbrev pub formOf : ConversionType → Kind → Form
-formOf (C.Integer r) k = integerForm (Numeral r) k
-formOf C.Char k = integerForm Scalar k
-formOf C.String k = byKind (Integer Digits) NotPrinted NotPrinted Text NotPrinted NotPrinted k
-formOf C.HexFloat k = onlyIf (isFloat k) HexFloat
-formOf C.Boolean k = onlyIf (isBoolean k) Boolean
-formOf C.DecimalFloat k = NotPrinted
-formOf (C.Time t) k = onlyIf (isTimestamp k) (Time t)
-formOf C.HexHash k = NotPrinted
+abbrev pub fitOf : ConversionType → Kind → Fit
+fitOf (C.Integer r) k = integersAlone (Numeral r) k
+fitOf C.Char k = integersAlone Scalar k
+fitOf C.String k = byKind (λ i. Fits (Integer Digits i)) (Fits NotPrinted) (Fits NotPrinted) (Fits Text) (Fits NotPrinted) Unfit k
+fitOf C.HexFloat k = byKind (λ _. Fits NotPrinted) (Fits HexFloat) Unfit Unfit Unfit Unfit k
+fitOf C.DecimalFloat k = byKind (λ _. Fits NotPrinted) (Fits NotPrinted) Unfit Unfit Unfit Unfit k
+fitOf C.Boolean k = byKind (λ _. Unfit) Unfit (Fits Boolean) Unfit Unfit Unfit k
+fitOf (C.Time t) k = byKind (λ _. Unfit) Unfit Unfit Unfit (Fits (Time t)) Unfit k
+fitOf C.HexHash k = byKind (λ _. Fits NotPrinted) (Fits NotPrinted) (Fits NotPrinted) (Fits NotPrinted) (Fits NotPrinted) Unfit k

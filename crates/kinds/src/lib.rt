@@ -7,8 +7,7 @@ use letters::TimeFormat;
 use numerals::Radix;
 ghost use mathlib.Core.Path.{_≡_};
 ghost use mathlib.Core.Bool.{true};
-ghost use Rattle.kinds.specs.Kinds.{kindOf, kindIn, isNull, isKnown, allKnown, isInteger, isFloat, isNumber, isBoolean, isText, isTimestamp, fits};
-ghost use Rattle.kinds.specs.Kinds.{integerForm, onlyIf, formOf};
+ghost use Rattle.kinds.specs.Kinds.{kindOf, kindIn, isNull, isKnown, allKnown, integersAlone, fitOf};
 
 // An integer kind: its width in bits, and whether its values have a sign.
 pub struct IntegerKind {
@@ -44,6 +43,12 @@ pub enum Form {
     Text,
     Time(TimeFormat),
     NotPrinted,
+}
+
+// What a conversion makes of a kind: it fits, and is printed so, or it does not fit.
+pub enum Fit {
+    Fits(Form),
+    Unfit,
 }
 
 // What a kind byte has added where the value is null.
@@ -116,151 +121,122 @@ pub fn all_known(kinds: &[u8]) -> bool
     true
 }
 
-fn is_integer(kind: Kind) -> bool
-    ensures { λ r. ⌜ r ≡ isInteger kind ⌝ }
+// Integers in this form, and no other kind.
+fn integer_fit(form: IntegerForm, kind: Kind) -> Fit
+    ensures { λ r. ⌜ r ≡ integersAlone form kind ⌝ }
 {
     match kind {
-        Kind::Integer(_) => true,
-        Kind::Float64 => false,
-        Kind::Boolean => false,
-        Kind::Text => false,
-        Kind::Timestamp => false,
-        Kind::NoKind => false,
-    }
-}
-
-fn is_float(kind: Kind) -> bool
-    ensures { λ r. ⌜ r ≡ isFloat kind ⌝ }
-{
-    match kind {
-        Kind::Integer(_) => false,
-        Kind::Float64 => true,
-        Kind::Boolean => false,
-        Kind::Text => false,
-        Kind::Timestamp => false,
-        Kind::NoKind => false,
-    }
-}
-
-fn is_number(kind: Kind) -> bool
-    ensures { λ r. ⌜ r ≡ isNumber kind ⌝ }
-{
-    if is_integer(kind) {
-        return true;
-    }
-    is_float(kind)
-}
-
-fn is_boolean(kind: Kind) -> bool
-    ensures { λ r. ⌜ r ≡ isBoolean kind ⌝ }
-{
-    match kind {
-        Kind::Integer(_) => false,
-        Kind::Float64 => false,
-        Kind::Boolean => true,
-        Kind::Text => false,
-        Kind::Timestamp => false,
-        Kind::NoKind => false,
-    }
-}
-
-pub fn is_text(kind: Kind) -> bool
-    ensures { λ r. ⌜ r ≡ isText kind ⌝ }
-{
-    match kind {
-        Kind::Integer(_) => false,
-        Kind::Float64 => false,
-        Kind::Boolean => false,
-        Kind::Text => true,
-        Kind::Timestamp => false,
-        Kind::NoKind => false,
-    }
-}
-
-fn is_timestamp(kind: Kind) -> bool
-    ensures { λ r. ⌜ r ≡ isTimestamp kind ⌝ }
-{
-    match kind {
-        Kind::Integer(_) => false,
-        Kind::Float64 => false,
-        Kind::Boolean => false,
-        Kind::Text => false,
-        Kind::Timestamp => true,
-        Kind::NoKind => false,
-    }
-}
-
-// Whether a conversion fits a kind.
-pub fn validate(conversion: ConversionType, kind: Kind) -> bool
-    ensures { λ r. ⌜ r ≡ fits conversion kind ⌝ }
-{
-    match conversion {
-        ConversionType::Boolean => is_boolean(kind),
-        ConversionType::HexHash => is_known(kind),
-        ConversionType::String => is_known(kind),
-        ConversionType::Char => is_integer(kind),
-        ConversionType::Integer(_) => is_integer(kind),
-        ConversionType::DecimalFloat => is_number(kind),
-        ConversionType::HexFloat => is_number(kind),
-        ConversionType::Time(_) => is_timestamp(kind),
-    }
-}
-
-// An integer in this form; no other kind has it.
-fn integer_form(form: IntegerForm, kind: Kind) -> Form
-    ensures { λ r. ⌜ r ≡ integerForm form kind ⌝ }
-{
-    match kind {
-        Kind::Integer(k) => Form::Integer {
+        Kind::Integer(k) => Fit::Fits(Form::Integer {
             form: form,
             kind: k,
-        },
-        Kind::Float64 => Form::NotPrinted,
-        Kind::Boolean => Form::NotPrinted,
-        Kind::Text => Form::NotPrinted,
-        Kind::Timestamp => Form::NotPrinted,
-        Kind::NoKind => Form::NotPrinted,
+        }),
+        Kind::Float64 => Fit::Unfit,
+        Kind::Boolean => Fit::Unfit,
+        Kind::Text => Fit::Unfit,
+        Kind::Timestamp => Fit::Unfit,
+        Kind::NoKind => Fit::Unfit,
     }
 }
 
 // %s: an integer's digits, or a text.
-fn string_form(kind: Kind) -> Form
-    ensures { λ r. ⌜ r ≡ formOf ConversionType.String kind ⌝ }
+fn string_fit(kind: Kind) -> Fit
+    ensures { λ r. ⌜ r ≡ fitOf ConversionType.String kind ⌝ }
 {
     match kind {
-        Kind::Integer(k) => Form::Integer {
+        Kind::Integer(k) => Fit::Fits(Form::Integer {
             form: IntegerForm::Digits,
             kind: k,
-        },
-        Kind::Float64 => Form::NotPrinted,
-        Kind::Boolean => Form::NotPrinted,
-        Kind::Text => Form::Text,
-        Kind::Timestamp => Form::NotPrinted,
-        Kind::NoKind => Form::NotPrinted,
+        }),
+        Kind::Float64 => Fit::Fits(Form::NotPrinted),
+        Kind::Boolean => Fit::Fits(Form::NotPrinted),
+        Kind::Text => Fit::Fits(Form::Text),
+        Kind::Timestamp => Fit::Fits(Form::NotPrinted),
+        Kind::NoKind => Fit::Unfit,
     }
 }
 
-fn only_if(test: bool, form: Form) -> Form
-    ensures { λ r. ⌜ r ≡ onlyIf test form ⌝ }
+// %h
+fn hash_fit(kind: Kind) -> Fit
+    ensures { λ r. ⌜ r ≡ fitOf ConversionType.HexHash kind ⌝ }
 {
-    if test {
-        return form;
+    match kind {
+        Kind::Integer(_) => Fit::Fits(Form::NotPrinted),
+        Kind::Float64 => Fit::Fits(Form::NotPrinted),
+        Kind::Boolean => Fit::Fits(Form::NotPrinted),
+        Kind::Text => Fit::Fits(Form::NotPrinted),
+        Kind::Timestamp => Fit::Fits(Form::NotPrinted),
+        Kind::NoKind => Fit::Unfit,
     }
-    Form::NotPrinted
 }
 
-// How a conversion prints a kind.
-pub fn form_of(conversion: ConversionType, kind: Kind) -> Form
-    ensures { λ r. ⌜ r ≡ formOf conversion kind ⌝ }
+// %e, %f and %g
+fn decimal_float_fit(kind: Kind) -> Fit
+    ensures { λ r. ⌜ r ≡ fitOf ConversionType.DecimalFloat kind ⌝ }
+{
+    match kind {
+        Kind::Integer(_) => Fit::Fits(Form::NotPrinted),
+        Kind::Float64 => Fit::Fits(Form::NotPrinted),
+        Kind::Boolean => Fit::Unfit,
+        Kind::Text => Fit::Unfit,
+        Kind::Timestamp => Fit::Unfit,
+        Kind::NoKind => Fit::Unfit,
+    }
+}
+
+// %a
+fn hex_float_fit(kind: Kind) -> Fit
+    ensures { λ r. ⌜ r ≡ fitOf ConversionType.HexFloat kind ⌝ }
+{
+    match kind {
+        Kind::Integer(_) => Fit::Fits(Form::NotPrinted),
+        Kind::Float64 => Fit::Fits(Form::HexFloat),
+        Kind::Boolean => Fit::Unfit,
+        Kind::Text => Fit::Unfit,
+        Kind::Timestamp => Fit::Unfit,
+        Kind::NoKind => Fit::Unfit,
+    }
+}
+
+// %b
+fn boolean_fit(kind: Kind) -> Fit
+    ensures { λ r. ⌜ r ≡ fitOf ConversionType.Boolean kind ⌝ }
+{
+    match kind {
+        Kind::Integer(_) => Fit::Unfit,
+        Kind::Float64 => Fit::Unfit,
+        Kind::Boolean => Fit::Fits(Form::Boolean),
+        Kind::Text => Fit::Unfit,
+        Kind::Timestamp => Fit::Unfit,
+        Kind::NoKind => Fit::Unfit,
+    }
+}
+
+// %t
+fn time_fit(component: TimeFormat, kind: Kind) -> Fit
+    ensures { λ r. ⌜ r ≡ fitOf (ConversionType.Time component) kind ⌝ }
+{
+    match kind {
+        Kind::Integer(_) => Fit::Unfit,
+        Kind::Float64 => Fit::Unfit,
+        Kind::Boolean => Fit::Unfit,
+        Kind::Text => Fit::Unfit,
+        Kind::Timestamp => Fit::Fits(Form::Time(component)),
+        Kind::NoKind => Fit::Unfit,
+    }
+}
+
+// Whether a conversion fits a kind, and how it is printed then.
+pub fn validate(conversion: ConversionType, kind: Kind) -> Fit
+    ensures { λ r. ⌜ r ≡ fitOf conversion kind ⌝ }
 {
     match conversion {
-        ConversionType::Boolean => only_if(is_boolean(kind), Form::Boolean),
-        ConversionType::HexHash => Form::NotPrinted,
-        ConversionType::String => string_form(kind),
-        ConversionType::Char => integer_form(IntegerForm::Scalar, kind),
-        ConversionType::Integer(radix) => integer_form(IntegerForm::Numeral(radix), kind),
-        ConversionType::DecimalFloat => Form::NotPrinted,
-        ConversionType::HexFloat => only_if(is_float(kind), Form::HexFloat),
-        ConversionType::Time(component) => only_if(is_timestamp(kind), Form::Time(component)),
+        ConversionType::Boolean => boolean_fit(kind),
+        ConversionType::HexHash => hash_fit(kind),
+        ConversionType::String => string_fit(kind),
+        ConversionType::Char => integer_fit(IntegerForm::Scalar, kind),
+        ConversionType::Integer(radix) => integer_fit(IntegerForm::Numeral(radix), kind),
+        ConversionType::DecimalFloat => decimal_float_fit(kind),
+        ConversionType::HexFloat => hex_float_fit(kind),
+        ConversionType::Time(component) => time_fit(component, kind),
     }
 }

@@ -13,9 +13,10 @@ use Rattle.parsing.specs.Listed.{Placed, placed}
 use Rattle.parsing.specs.declared.Piece.{Piece}
 use Rattle.parsing.specs.declared.Piece.the-variants.{Fixed, Byte, Element as AnElement}
 use Rattle.rows.specs.Row.{kindsOf, entryAt, namedText, isRow}
-use Rattle.rows.proofs.Rows.{AllBytes, kinds-length}
+use Rattle.rows.proofs.Rows.{AllBytes}
 use Rattle.columns.proofs.Columns.{reads-back}
 use Rattle.columns.proofs.Letters.{NamedBy}
+use Rattle.elements.proofs.PieceTexts.{found-suited}
 use Rattle.elements.specs.PieceTexts.{shownPiece, pieceText, pieceStop}
 use Rattle.outcomes.specs.Printed.{texts, joined, printedText, endsFrom}
 use Rattle.outcomes.specs.Demand.{endBefore, cutOut, pieceOf, isTime, DenotesValue, Demand3}
@@ -36,9 +37,7 @@ module _ (s row : List ℕ) (kept : isRow row ≡ true) (bytes : AllBytes row) (
   piece-reads (Fixed begin len) i e letter = tt
   piece-reads (Byte b) i e letter = tt
   piece-reads (AnElement x) i e letter = λ n.
-      let few = kinds-length row kept in
-      reads-back row bytes x (record { kept = kept; first = i .0; last = omega (arith, i .1) }) (namedText row (entryAt row (x .argument))) e (getD s (to - 1) 0)
-      (letter x refl n)
+      reads-back row bytes x (found-suited s row x kept i) (namedText row (entryAt row (x .argument))) e (getD s (to - 1) 0) (letter x refl n)
 
 module _ (s row : List ℕ) (n k : ℕ) (ok : Accepts s row n k) (d e : List ℕ) where
   as-many : k ≡ length (texts s row)

@@ -5,30 +5,25 @@ use mathlib.Core.List.{List, [], _∷_, _++_, append-assoc, append-nil}
 use Prim.Native.Nat.{ℕ, _+_, _-_, _≤_, _<_}
 use Prim.Native.Char.{code}
 use native.Mathlib.Omega.{arith}
-use lib.Dec.{eqb}
 use lib.ListN.{length, getD, length-append}
 use lib.Seq.{getD-at}
-use Rattle.writing.specs.Choose.{choose}
-use Rattle.writing.specs.Text.{has}
-use Rattle.kinds.specs.Letters.{timeOf, smallOf, capitalOf}
+use Rattle.writing.specs.Text.{ascii, has}
+use Rattle.numerals.specs.declared.Radix.the-variants.{Decimal, Octal, Hexadecimal}
+use Rattle.kinds.specs.Letters.{smallOf, capitalOf}
 use Rattle.kinds.specs.Kinds.{unmarked, isKnown}
 use Rattle.kinds.specs.declared.letters.ConversionType.{ConversionType}
+use Rattle.kinds.specs.declared.letters.ConversionType.the-variants as C
 use Rattle.kinds.specs.declared.Kind.{Kind}
 use Rattle.kinds.specs.declared.Kind.the-variants as K
-use Rattle.kinds.specs.declared.letters.Letter.{Letter}
-use Rattle.kinds.specs.declared.letters.Letter.the-variants.{Conversion, NoConversion}
-use Rattle.kinds.specs.declared.letters.TimeLetter.{TimeLetter}
-use Rattle.kinds.specs.declared.letters.TimeLetter.the-variants.{Component, NoComponent}
-use Rattle.specifiers.specs.Specifier.{oneLetter, timeLetter, secondLetter, letterFrom}
 use Rattle.specifiers.specs.declared.Element.{Element}
-use Rattle.specifiers.specs.declared.LetterTaken.the-variants as L
 use Rattle.parsing.specs.Listed.{Placed, placed, ended}
 use Rattle.parsing.specs.declared.Ended.the-variants.{Finished}
 use Rattle.parsing.specs.declared.Piece.{Piece}
 use Rattle.parsing.specs.declared.Piece.the-variants.{Element as AnElement}
+use Rattle.grammar.specs.Runs.{begins}
 use Rattle.grammar.specs.Parts.{Written, choiceBytes, precisionBytes, Part, elementBytes, partBytes, bytesBefore}
-use Rattle.grammar.specs.Elements.{kinds}
-use Rattle.grammar.specs.Pieces.{PieceIs}
+use Rattle.grammar.specs.Elements.{kinds, IsLetter, plain, time}
+use Rattle.grammar.specs.Pieces.{lettersOf, capitals, PieceIs}
 use Rattle.grammar.specs.Pieces as Q
 use Rattle.grammar.proofs.Letters.{known-kind}
 use Rattle.grammar.proofs.Listed.{IsPart, nth-part}
@@ -37,7 +32,7 @@ use Rattle.grammar.proofs.Steps.{KindsKnown}
 use Rattle.rows.specs.Entry.{isEntry}
 use Rattle.rows.specs.Row.{countOf, kindsOf, kindByteOf, textArea, entryAt, isRow}
 use Rattle.rows.proofs.Rows.{kinds-length, kind-byte, entry}
-use Rattle.columns.proofs.Letters.{NamedBy}
+use Rattle.columns.proofs.Letters.{NamedBy, among}
 use Rattle.outcomes.specs.Demand.{isTime}
 
 never : false ≡ true → ⊥
@@ -62,34 +57,44 @@ row-kinds row kept a h i =
     let q = entry-known (textArea row) (x .kind) (x .null) (x .value) (entry row kept a h few) in
     ap (λ (k : ℕ). has kinds (unmarked k)) (kind-byte row a h few) ∙ known-kind (unmarked (kindByteOf row a)) q
 
--- a letter of one byte, read; what takes two is t or T
-module _ (c : ConversionType) (u : Bool) where
-  single : (x y : Letter) (at n : ℕ) → oneLetter x y at ≡ L.Read c u n → n ≡ at + 1
-  single (Conversion d) y at n e = let q : at + 1 ≡ n = cc in sym q
-  single NoConversion (Conversion d) at n e = let q : at + 1 ≡ n = cc in sym q
-  single NoConversion NoConversion at n e = absurd (let z : _≡_ {A = ℕ} 0 1 = cc in omega arith)
+-- What holds of each byte of a text, one by one.
+abbrev All : (ℕ → Type 0) → List ℕ → Type 0
+All P [] = Unit {0}
+All P (b ∷ bs) = P b × All P bs
 
-  double : (v : Bool) (x : TimeLetter) (at n : ℕ) → timeLetter v x at ≡ L.Read c u n → (isTime c ≡ true) × (n ≡ at + 2)
-  double v (Component d) at n e = let q : at + 2 ≡ n = cc in let r = e in (cc, sym q)
-  double v NoComponent at n e = absurd (let z : _≡_ {A = ℕ} 0 1 = cc in omega arith)
+all-of : (P : ℕ → Type 0) (l : List ℕ) → All P l → (b : ℕ) → has l b ≡ true → P b
+unfolding has
+all-of P [] a b h = absurd (never h)
+all-of P (x ∷ l) a b h = among P x l b (λ q. subst P q (a .0)) (all-of P l (a .1) b) h
 
-  -- that the letter x is one byte b, by which the conversion is named
-  record Single (x : List ℕ) : Type 0 where
-    b : ℕ
-    is : x ≡ b ∷ []
-    names : NamedBy b c u
+-- A letter of a conversion, but for t and T, names it, and is no t or T.
+abbrev Names : ConversionType → ℕ → Type 0
+Names c b = NamedBy b c (has capitals b) × (has (ascii "tT") b ≡ false)
 
-  one-byte : (x : List ℕ) → letterFrom x 0 ≡ L.Read c u (length x) → isTime c ≡ false → Single x
-  one-byte [] e n = absurd (let z : _≡_ {A = ℕ} 0 1 = cc in omega arith)
-  one-byte (b ∷ []) e n = record { b = b; is = refl; names = e }
-  one-byte (b ∷ d ∷ more) e n = absurd (go (eqb b (code "t")) (eqb b (code "T")) e)
-    where
-      go : (p q : Bool)
-          → choose p (λ _. secondLetter false (d ∷ more) 0) (λ _. choose q (λ _. secondLetter true (d ∷ more) 0) (λ _. oneLetter (smallOf b) (capitalOf b) 0))
-          ≡ L.Read c u (length (b ∷ d ∷ more)) → ⊥
-      go true q e = never (sym n ∙ double false (timeOf d) 0 _ e .0)
-      go false true e = never (sym n ∙ double true (timeOf d) 0 _ e .0)
-      go false false e = let k = single (smallOf b) (capitalOf b) 0 _ e in omega arith
+letter-names : (c : ConversionType) → isTime c ≡ false → (b : ℕ) → has (lettersOf c) b ≡ true → Names c b
+unfolding smallOf capitalOf has
+letter-names C.Boolean n = all-of (Names C.Boolean) (ascii "bB") ((refl, refl), ((refl, refl), tt))
+letter-names C.HexHash n = all-of (Names C.HexHash) (ascii "hH") ((refl, refl), ((refl, refl), tt))
+letter-names C.String n = all-of (Names C.String) (ascii "sS") ((refl, refl), ((refl, refl), tt))
+letter-names C.Char n = all-of (Names C.Char) (ascii "cC") ((refl, refl), ((refl, refl), tt))
+letter-names (C.Integer Decimal) n = all-of (Names (C.Integer Decimal)) (ascii "d") ((refl, refl), tt)
+letter-names (C.Integer Octal) n = all-of (Names (C.Integer Octal)) (ascii "o") ((refl, refl), tt)
+letter-names (C.Integer Hexadecimal) n = all-of (Names (C.Integer Hexadecimal)) (ascii "xX") ((refl, refl), ((refl, refl), tt))
+letter-names C.DecimalFloat n =
+    all-of (Names C.DecimalFloat) (ascii "eEfgG") ((refl, refl), ((refl, refl), ((refl, refl), ((refl, refl), ((refl, refl), tt)))))
+letter-names C.HexFloat n = all-of (Names C.HexFloat) (ascii "aA") ((refl, refl), ((refl, refl), tt))
+letter-names (C.Time t) n = absurd (never (sym n))
+
+-- that the letter x is one byte b, by which the conversion is named
+record Single (c : ConversionType) (u : Bool) (x : List ℕ) : Type 0 where
+  b : ℕ
+  is : x ≡ b ∷ []
+  names : NamedBy b c u
+
+one-byte : (c : ConversionType) (u : Bool) {x : List ℕ} → IsLetter x → isTime c ≡ false → begins (has (lettersOf c)) x ≡ true
+    → u ≡ begins (has capitals) x → Single c u x
+one-byte c u (plain {l} h) n i q = record { b = l; is = refl; names = subst (NamedBy l c) (sym q) (letter-names c n l i .0) }
+one-byte c u (time {t} {l} h k) n i q = absurd (never (sym (letter-names c n t i .1) ∙ h))
 
 -- an element's last byte is the last of its letter
 last-byte : (w : Written) (b : ℕ) → w .letter ≡ b ∷ [] → (front tail : List ℕ)
@@ -107,21 +112,21 @@ module _ (s ks : List ℕ) (known : KindsKnown ks) (end : ended s ks ≡ Finishe
   pub letter-in : (i : ℕ) (d : Placed) → i < length (placed s ks) → (e : Element) → getD (placed s ks) i d .piece ≡ AnElement e
       → isTime (e .conversion) ≡ false → NamedBy (getD s (getD (placed s ks) i d .to - 1) 0) (e .conversion) (e .upper)
   unfolding bytesBefore
-  letter-in i d h e q n = go (subst (λ (p : Piece). PieceIs (length (bytesBefore (x .before))) p (x .part)) q (x .is)) (x .to) whole
+  letter-in i d h e q n = go (subst (λ (p : Piece). PieceIs ks (length (bytesBefore (x .before))) p (x .part)) q (x .is)) (x .to) whole
     where
       m : Made s ks known
       m = parts-of s ks known end
 
-      x : IsPart (getD (placed s ks) i d) (m .parts)
+      x : IsPart ks (getD (placed s ks) i d) (m .parts)
       x = nth-part (read-whole s ks known (m .whole) .lists) i d h
 
       whole : s ≡ (bytesBefore (x .before) ++ partBytes (x .part)) ++ x .tail
       whole = reads-bytes (m .whole .reads) ∙ append-nil (bytesBefore (m .parts)) ∙ x .bytes
 
-      go : {p : Part} {to : ℕ} → PieceIs (length (bytesBefore (x .before))) (AnElement e) p → to ≡ length (bytesBefore (x .before) ++ partBytes p)
+      go : {p : Part} {to : ℕ} → PieceIs ks (length (bytesBefore (x .before))) (AnElement e) p → to ≡ length (bytesBefore (x .before) ++ partBytes p)
           → s ≡ (bytesBefore (x .before) ++ partBytes p) ++ x .tail → NamedBy (getD s (to - 1) 0) (e .conversion) (e .upper)
       go {to = to} (Q.is-element {w = w} is) at all =
-          let y = one-byte (e .conversion) (e .upper) (w .letter) (is .letter) n in
+          let y = one-byte (e .conversion) (e .upper) (is .letter) n (is .conversion) (is .upper) in
           let b : getD s (to - 1) 0 ≡ y .b =
           ap (λ (l : List ℕ). getD l (to - 1) 0) all
           ∙ ap (λ (k : ℕ). getD ((bytesBefore (x .before) ++ elementBytes w) ++ x .tail) (k - 1) 0) at

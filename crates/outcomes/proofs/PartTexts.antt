@@ -48,7 +48,7 @@ module _ (s row : List ℕ) where
   texts-one [] p = refl
   texts-one (q ∷ ps) p = ap (λ (ts : List (List ℕ)). pieceText s row (q .piece) ∷ ts) (texts-one ps p)
 
-  part-text : {x : Piece} {p : Part} (before : List Part) (rest : List ℕ) → PieceIs (length (bytesBefore before)) x p
+  part-text : {x : Piece} {p : Part} (before : List Part) (rest : List ℕ) → PieceIs (kindsOf row) (length (bytesBefore before)) x p
       → s ≡ bytesBefore before ++ (partBytes p ++ rest) → PartText row p (pieceText s row x)
   unfolding shownPiece
   part-text before rest (Q.is-text {begin} {len} {t} e f) q =
@@ -68,7 +68,7 @@ module _ (s row : List ℕ) where
     shown = ap (λ (a : ℕ). textOf (shownEntry row e (entryAt row a))) (is .argument);
   }
 
-  lists-texts : {ps : List Placed} {parts : List Part} (rest : List ℕ) → Lists ps parts → s ≡ bytesBefore parts ++ rest
+  lists-texts : {ps : List Placed} {parts : List Part} (rest : List ℕ) → Lists (kindsOf row) ps parts → s ≡ bytesBefore parts ++ rest
       → PartTexts row parts (textsOf s row ps)
   unfolding textsOf bytesBefore
   lists-texts rest Q.nothing q = nothing
@@ -93,7 +93,7 @@ no-time C.DecimalFloat l h n = refl
 no-time C.HexFloat l h n = refl
 no-time (C.Time t) l h n = absurd (let q = sym n ∙ h in let z : _≡_ {A = ℕ} 0 1 = cc in omega arith)
 
-part-denotes : (s row : List ℕ) (to : ℕ) {at : ℕ} {x : Piece} {p : Part} (bytes : List ℕ) → PieceIs at x p → DenotesValue s row to x bytes
+part-denotes : (s row : List ℕ) (to : ℕ) {at : ℕ} {x : Piece} {p : Part} (bytes : List ℕ) → PieceIs (kindsOf row) at x p → DenotesValue s row to x bytes
     → PartDenotes s row to p bytes
 part-denotes s row to bytes (Q.is-text e f) d = tt
 part-denotes s row to bytes (Q.is-percent e f) d = tt

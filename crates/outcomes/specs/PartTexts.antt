@@ -9,7 +9,7 @@ use Rattle.specifiers.specs.declared.Element.{Element}
 use Rattle.grammar.specs.Runs.{begins}
 use Rattle.grammar.specs.Parts.{Written, Part, text, percent, newline, element}
 use Rattle.grammar.specs.Pieces.{precisionRead, ElementIs}
-use Rattle.rows.specs.Row.{entryAt}
+use Rattle.rows.specs.Row.{kindsOf, entryAt}
 use Rattle.elements.specs.Texts.{textOf}
 use Rattle.elements.specs.PieceTexts.{shownEntry}
 use Rattle.columns.specs.Columns.{ReadsBack}
@@ -17,7 +17,7 @@ use Rattle.columns.specs.Columns.{ReadsBack}
 -- An element as it is written prints the row's value under the argument that it takes.
 pub record ElementText (row : List ℕ) (w : Written) (t : List ℕ) : Type 0 where
   pub holds : Element
-  pub is : ElementIs holds w
+  pub is : ElementIs (kindsOf row) holds w
   pub shown : t ≡ textOf (shownEntry row holds (entryAt row (w .argument)))
 
 -- Text is printed as it stands; "`%%` is a piece holding one `%`, `%n` a piece holding byte 10".

@@ -1,5 +1,5 @@
 -- A piece that was found lies inside the format, and an element's argument is one of those that there are. Assumes nothing.
-use mathlib.Core.Path.{_≡_, refl}
+use mathlib.Core.Path.{_≡_, refl, ap, _∙_}
 use mathlib.Core.List.{List}
 use Prim.Native.Nat.{ℕ, zero, suc, _+_, _-_, _≤_, _<_}
 use Prim.Native.Char.{code}
@@ -9,9 +9,11 @@ use lib.ListN.{length, getD, drop}
 use borrow.Author.Tests.{ltb-true}
 use Rattle.refusals.specs.Limits.{mostPieces}
 use Rattle.writing.proofs.Choose.{by-test}
-use Rattle.kinds.specs.Kinds.{kindIn, fits}
+use Rattle.kinds.specs.Kinds.{kindIn, fitOf}
+use Rattle.kinds.specs.declared.Fit.{Fit}
+use Rattle.kinds.specs.declared.Fit.the-variants.{Fits, Unfit}
 use Rattle.kinds.specs.declared.Kind.{Kind}
-use Rattle.specifiers.specs.Specifier.{beginsWith, letterAt, afterLetter, partsAt, afterParts, specifierAt}
+use Rattle.specifiers.specs.Specifier.{beginsWith, letterAt, fitted, afterLetter, partsAt, afterParts, specifierAt}
 use Rattle.specifiers.specs.declared.LetterTaken.{LetterTaken}
 use Rattle.specifiers.specs.declared.LetterTaken.the-variants as L
 use Rattle.specifiers.specs.declared.Parts.{Parts}
@@ -32,21 +34,25 @@ use Rattle.parsing.specs.declared.Step.the-variants.{Found, Refused}
 use Rattle.parsing.proofs.Indexes.{argument-in}
 use Rattle.parsing.proofs.Progress.{advanced}
 
--- The element read is that of the argument asked for.
-abbrev Of : ℕ → Specifier → Type 0
-Of a (S.Read e at) = e .argument ≡ a
-Of a (S.Refused number) = Unit {0}
+-- The element read is that of the argument asked for, and has the form of its kind.
+abbrev Of : ℕ → Kind → Specifier → Type 0
+Of a k (S.Read e at) = (e .argument ≡ a) × (fitOf (e .conversion) k ≡ Fits (e .form))
+Of a k (S.Refused number) = Unit {0}
 
 module _ (s : List ℕ) (a : ℕ) (k : Kind) where
-  of-letter : (x : Parts) (t : LetterTaken) → Of a (afterLetter a k x t)
-  of-letter x (L.Read c u at) = by-test (Of a) (fits c k) _ _ (λ _. refl) (λ _. tt)
+  of-letter : (x : Parts) (t : LetterTaken) → Of a k (afterLetter a k x t)
+  of-letter x (L.Read c u at) = of-fit (fitOf c k) refl
+    where
+      of-fit : (f : Fit) → fitOf c k ≡ f → Of a k (fitted a x c u at f)
+      of-fit (Fits f) q = (refl, q)
+      of-fit Unfit q = tt
   of-letter x (L.Refused n) = tt
 
-  of-parts : (t : PartsTaken) → Of a (afterParts s a k t)
+  of-parts : (t : PartsTaken) → Of a k (afterParts s a k t)
   of-parts (P.Read x at) = of-letter x (letterAt s at)
   of-parts (P.Refused n) = tt
 
-  specifier-of : (at : ℕ) → Of a (specifierAt s at a k)
+  specifier-of : (at : ℕ) → Of a k (specifierAt s at a k)
   unfolding specifierAt
   specifier-of at = of-parts (partsAt s at)
 
@@ -59,8 +65,10 @@ module _ (s ks : List ℕ) (c : Cursor) where
   element-sound (I.Named a next count) h =
       read (specifierAt s next a (kindIn (getD ks (a - 1) 0))) (specifier-of s a (kindIn (getD ks (a - 1) 0)) next) (h .0) (h .1)
     where
-      read : (t : Specifier) → Of a t → 1 ≤ a → a ≤ length ks → Sound s ks (afterSpecifier a count t)
-      read (S.Read e n) q l m = λ _. (omega arith, omega arith)
+      read : (t : Specifier) → Of a (kindIn (getD ks (a - 1) 0)) t → 1 ≤ a → a ≤ length ks → Sound s ks (afterSpecifier a count t)
+      read (S.Read e n) q l m = λ _.
+          let form = ap (λ (i : ℕ). fitOf (e .conversion) (kindIn (getD ks (i - 1) 0))) (q .0) ∙ q .1 in
+          (omega (arith, q .0), omega (arith, q .0), form)
       read (S.Refused n) q l m = tt
   element-sound (I.Refused n) h = tt
 

@@ -97,8 +97,7 @@ fn take_element(fmt: &[u8], kinds: &[u8], c: Cursor) -> Step
     else {
         return index_refusal(index);
     };
-    let kind = kinds::kind_in(kinds[argument - 1]);
-    let read = specifiers::take_conversion_specifier(fmt, next, argument, kind);
+    let read = specifiers::take_conversion_specifier(fmt, next, argument, kinds[argument - 1]);
     let Specifier::Read { element, next: end } = read else {
         return specifier_refusal(read);
     };

@@ -2,11 +2,11 @@
 use Prim.Native.Nat.{ℕ, _≤_}
 use mathlib.Core.Path.{_≡_}
 use mathlib.Core.Bool.{true}
-use mathlib.Core.List.{List, []}
+use mathlib.Core.List.{List}
 use Rattle.writing.specs.Choose.{choose}
-use Rattle.kinds.specs.Kinds.{isText}
+use Rattle.kinds.specs.declared.Kind.the-variants as K
 use Rattle.rows.specs.Entry.{isEntry}
-use Rattle.rows.specs.Row.{countOf, textArea, namedText, isRow}
+use Rattle.rows.specs.Row.{countOf, textArea, isRow}
 use Rattle.rows.specs.declared.entries.Entry.{Entry}
 use Rattle.rows.specs.declared.RowRead.{RowRead}
 use Rattle.rows.specs.declared.RowRead.the-variants.{Row, Broken}
@@ -21,11 +21,8 @@ pub record Argument (row : List ℕ) (a : ℕ) : Type 0 where
 unfoldable pub rowOf : List ℕ → RowRead
 rowOf row = choose (isRow row) (λ _. Row (countOf row)) (λ _. Broken)
 
--- An entry that stands in a row that keeps its layout.
-pub record InRow (row : List ℕ) (e : Entry) : Type 0 where
+-- An entry of kind 7 that stands in a row that keeps its layout.
+pub record Names (row : List ℕ) (e : Entry) : Type 0 where
   pub kept : isRow row ≡ true
   pub is : isEntry (textArea row) e ≡ true
-
--- What is handed out of a row: the text of an entry of kind 7, and nothing of any other, which names none.
-unfoldable pub handedOut : List ℕ → Entry → List ℕ
-handedOut row e = choose (isText (e .kind)) (λ _. namedText row e) (λ _. [])
+  pub text : e .kind ≡ K.Text

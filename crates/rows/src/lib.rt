@@ -5,8 +5,8 @@ use entries::Entry;
 ghost use mathlib.Core.Path.{_≡_};
 ghost use Prim.Native.Nat.{_+_, _*_, _^_, _≤_, _<_};
 ghost use lib.ListN.{length};
-ghost use Rattle.rows.specs.Row.{countOf, entryAt, entriesFrom};
-ghost use Rattle.rows.specs.Arguments.{Argument, InRow, rowOf, handedOut};
+ghost use Rattle.rows.specs.Row.{countOf, entryAt, namedText, entriesFrom};
+ghost use Rattle.rows.specs.Arguments.{Argument, Names, rowOf};
 
 // How many arguments a row says it has.
 fn count_of(row: &[u8]) -> usize
@@ -74,17 +74,13 @@ pub fn entry(row: &[u8], argument: usize) -> Entry
     entries::entry_of(row[5 + argument], value)
 }
 
-// The text that an entry of kind 7 names; any other kind names none.
+// The text that an entry of kind 7 names.
 pub fn named_text<'a>(row: &'a [u8], e: Entry) -> &'a [u8]
-    requires { ⌜ InRow (now row) e ⌝ }
-    ensures { λ r. ⌜ (now r ≡ handedOut (now (row .entry)) e) × (length (now r) < 2 ^ 32) ⌝ }
+    requires { ⌜ Names (now row) e ⌝ }
+    ensures { λ r. ⌜ (now r ≡ namedText (now (row .entry)) e) × (length (now r) < 2 ^ 32) ⌝ }
 {
-    let kind = e.kind;
     let value = e.value;
-    if kinds::is_text(kind) {
-        let start = 6 + 9 * count_of(row) + (value % 4294967296) as usize;
-        let len = (value / 4294967296) as usize;
-        return &row[start..start + len];
-    }
-    &row[..0]
+    let start = 6 + 9 * count_of(row) + (value % 4294967296) as usize;
+    let len = (value / 4294967296) as usize;
+    &row[start..start + len]
 }

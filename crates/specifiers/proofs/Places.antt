@@ -18,14 +18,16 @@ use Rattle.specifiers.specs.declared.params.Taken.{Taken}
 use Rattle.specifiers.specs.declared.params.Taken.the-variants.{Param, TooLarge}
 use Rattle.specifiers.proofs.Numbers.{NumberIn, number-in}
 use Rattle.kinds.specs.Letters.{timeOf, smallOf, capitalOf}
-use Rattle.kinds.specs.Kinds.{fits}
+use Rattle.kinds.specs.Kinds.{fitOf}
+use Rattle.kinds.specs.declared.Fit.{Fit}
+use Rattle.kinds.specs.declared.Fit.the-variants.{Fits, Unfit}
 use Rattle.kinds.specs.declared.Kind.{Kind}
 use Rattle.kinds.specs.declared.letters.Letter.{Letter}
 use Rattle.kinds.specs.declared.letters.Letter.the-variants.{Conversion, NoConversion}
 use Rattle.kinds.specs.declared.letters.TimeLetter.{TimeLetter}
 use Rattle.kinds.specs.declared.letters.TimeLetter.the-variants.{Component, NoComponent}
 use Rattle.specifiers.specs.Flags.{leadingFlags, firstClash, flagsTaken, flagsAt}
-use Rattle.specifiers.specs.Specifier.{beginsWith, precisionAt, afterPrecision, afterWidth, afterFlags, partsAt}
+use Rattle.specifiers.specs.Specifier.{beginsWith, precisionAt, afterPrecision, afterWidth, afterFlags, partsAt, fitted}
 use Rattle.specifiers.specs.Specifier.{capitalTaken, oneLetter, timeLetter, secondLetter, letterFrom, letterAt}
 use Rattle.specifiers.specs.Specifier.{afterLetter, afterParts, specifierAt}
 use Rattle.specifiers.specs.declared.flags.Flags.{Flags}
@@ -143,7 +145,11 @@ module _ (s : List ℕ) (at : ℕ) where
     from-letter : (x : Parts) (l : ℕ) → at ≤ l → (t : LetterTaken) → LetterIn (length s) l t
         → SpecifierIn (length s) at (afterLetter a k x t)
     from-letter x l h (L.Read c u n) i =
-        by-test (SpecifierIn (length s) at) (fits c k) _ _ (λ _. (omega arith, omega arith)) (λ _. tt)
+        of-fit (fitOf c k)
+      where
+        of-fit : (f : Fit) → SpecifierIn (length s) at (fitted a x c u n f)
+        of-fit (Fits f) = (omega arith, omega arith)
+        of-fit Unfit = tt
     from-letter x l h (L.Refused n) i = tt
 
     from-parts : (t : PartsTaken) → PartsOn at t → SpecifierIn (length s) at (afterParts s a k t)

@@ -12,7 +12,9 @@ use Rattle.numerals.specs.declared.NumericParam.the-variants.{FromArgument}
 use Rattle.specifiers.specs.declared.params.Taken.{Taken}
 use Rattle.specifiers.specs.declared.params.Taken.the-variants.{Param, TooLarge}
 use Rattle.kinds.specs.Letters.{timeOf, smallOf, capitalOf}
-use Rattle.kinds.specs.Kinds.{fits}
+use Rattle.kinds.specs.Kinds.{fitOf}
+use Rattle.kinds.specs.declared.Fit.{Fit}
+use Rattle.kinds.specs.declared.Fit.the-variants.{Fits, Unfit}
 use Rattle.kinds.specs.declared.Kind.{Kind}
 use Rattle.kinds.specs.declared.letters.ConversionType.{ConversionType}
 use Rattle.kinds.specs.declared.letters.ConversionType.the-variants.{Time}
@@ -87,14 +89,13 @@ unfoldable pub partsAt : List ℕ → ℕ → PartsTaken
 partsAt s at = afterFlags s (flagsAt s at)
 
 -- The element of the argument a, which has the kind k, read from the place at on: these, the letter, and 12 where the "letter does not fit the kind".
-abbrev pub fitted : ℕ → Kind → Parts → ConversionType → Bool → ℕ → Specifier
-fitted a k x c u at =
-    choose (fits c k)
-    (λ _. S.Read (record { argument = a; flags = x .flags; width = x .width; precision = x .precision; conversion = c; upper = u }) at)
-    (λ _. S.Refused 12)
+abbrev pub fitted : ℕ → Parts → ConversionType → Bool → ℕ → Fit → Specifier
+fitted a x c u at (Fits f) =
+    S.Read (record { argument = a; flags = x .flags; width = x .width; precision = x .precision; conversion = c; upper = u; form = f }) at
+fitted a x c u at Unfit = S.Refused 12
 
 abbrev pub afterLetter : ℕ → Kind → Parts → LetterTaken → Specifier
-afterLetter a k x (L.Read c u at) = fitted a k x c u at
+afterLetter a k x (L.Read c u at) = fitted a x c u at (fitOf c k)
 afterLetter a k x (L.Refused number) = S.Refused number
 
 abbrev pub afterParts : List ℕ → ℕ → Kind → PartsTaken → Specifier

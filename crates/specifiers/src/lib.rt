@@ -5,7 +5,8 @@ pub mod params;
 
 use flags::Flags;
 use flags::FlagsTaken;
-use kinds::Kind;
+use kinds::Fit;
+use kinds::Form;
 use kinds::letters::ConversionType;
 use kinds::letters::Letter;
 use kinds::letters::TimeLetter;
@@ -14,6 +15,7 @@ use params::Taken;
 ghost use mathlib.Core.Path.{_≡_};
 ghost use Prim.Native.Nat.{_<_};
 ghost use lib.ListN.{length, drop};
+ghost use Rattle.kinds.specs.Kinds.{kindIn};
 ghost use Rattle.specifiers.specs.Specifier.{beginsWith, precisionAt, timeLetterAt, letterAt, partsAt, specifierAt};
 ghost use Rattle.specifiers.specs.Refusals.{beginsLetter, FlagsHanded, PartsHanded, LetterHanded};
 
@@ -40,7 +42,8 @@ pub enum PartsTaken {
     Refused { number: u8 },
 }
 
-// An element: the argument that it takes, and how it is printed; in capitals where upper is set.
+// An element: the argument that it takes, its flags, width, precision and letter, a capital where upper is set, and the form in which the letter prints the
+// argument's kind.
 pub struct Element {
     pub argument: usize,
     pub flags: Flags,
@@ -48,6 +51,7 @@ pub struct Element {
     pub precision: NumericParam,
     pub conversion: ConversionType,
     pub upper: bool,
+    pub form: Form,
 }
 
 pub enum Specifier {
@@ -226,9 +230,9 @@ fn take_parts(fmt: &[u8], at: usize) -> PartsTaken
     }
 }
 
-// An element behind its index: flags, width, precision, letter, and whether it fits the kind.
-pub fn take_conversion_specifier(fmt: &[u8], at: usize, argument: usize, kind: Kind) -> Specifier
-    ensures { λ r. ⌜ r ≡ specifierAt (now (fmt .entry)) at argument kind ⌝ }
+// An element behind its index: flags, width, precision, letter, and whether it fits the kind of this byte.
+pub fn take_conversion_specifier(fmt: &[u8], at: usize, argument: usize, byte: u8) -> Specifier
+    ensures { λ r. ⌜ r ≡ specifierAt (now (fmt .entry)) at argument (kindIn byte) ⌝ }
 {
     let taken = take_parts(fmt, at);
     let PartsTaken::Read { parts, next: l } = taken else {
@@ -243,23 +247,25 @@ pub fn take_conversion_specifier(fmt: &[u8], at: usize, argument: usize, kind: K
     else {
         return letter_refusal(letter);
     };
-    if kinds::validate(conversion, kind) {
-        let flags = parts.flags;
-        let width = parts.width;
-        let precision = parts.precision;
-        return Specifier::Read {
-            element: Element {
-                argument: argument,
-                flags: flags,
-                width: width,
-                precision: precision,
-                conversion: conversion,
-                upper: upper,
-            },
-            next: end,
+    let fit = kinds::validate(conversion, kinds::kind_in(byte));
+    let Fit::Fits(form) = fit else {
+        return Specifier::Refused {
+            number: refusals::UNFIT_LETTER,
         };
-    }
-    Specifier::Refused {
-        number: refusals::UNFIT_LETTER,
+    };
+    let flags = parts.flags;
+    let width = parts.width;
+    let precision = parts.precision;
+    Specifier::Read {
+        element: Element {
+            argument: argument,
+            flags: flags,
+            width: width,
+            precision: precision,
+            conversion: conversion,
+            upper: upper,
+            form: form,
+        },
+        next: end,
     }
 }

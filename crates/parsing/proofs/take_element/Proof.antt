@@ -36,14 +36,11 @@ known c =
     let h = argument-named (a .fmt .now) (length (a .kinds .now)) (a .c) _ _ _ (sym (argument .take-argument .ensures) ∙ c .before .index .given .1) in
     (h .0, h .1)
 
-sub-kind-in : tie.Need-sub-kind-in
-sub-kind-in c = omega (arith, known c .0)
+sub-take-conversion-specifier : tie.Need-sub-take-conversion-specifier
+sub-take-conversion-specifier c = omega (arith, known c .0)
 
-shared-slice-read-kind-in : tie.Need-shared-slice-read-kind-in
-shared-slice-read-kind-in c = omega (arith, known (c .before) .0, known (c .before) .1)
-
-kind-in-requires : tie.Need-kind-in-requires
-kind-in-requires c κs = search needs
+shared-slice-read-take-conversion-specifier : tie.Need-shared-slice-read-take-conversion-specifier
+shared-slice-read-take-conversion-specifier c = omega (arith, known (c .before) .0, known (c .before) .1)
 
 take-conversion-specifier-requires : tie.Need-take-conversion-specifier-requires
 take-conversion-specifier-requires c κs = search needs
@@ -61,28 +58,19 @@ returns-2 : tie.Need-returns-2
 unfolding elementAt
 returns-2 c =
     let read = c .before .before .before in
-    let kind = read .before in
-    let named = kind .before .before in
+    let named = read .before .before in
     let told = c .before .enum-told2 .given .1 in
-    simp (
-      ← named .before .before .before .take-argument .ensures,
-      named .before .index .given .1,
-      ← kind .kind-in .ensures,
-      ← read .take-conversion-specifier .ensures,
-      told,
-    )
+    simp (← named .before .before .before .take-argument .ensures, named .before .index .given .1, ← read .take-conversion-specifier .ensures, told)
     (rw told at (c .specifier-refusal .ensures))
 
 returns-3 : tie.Need-returns-3
 unfolding elementAt
 returns-3 c =
     let read = c .before .before .before in
-    let kind = read .before in
-    let named = kind .before .before in
+    let named = read .before .before in
     simp (
       ← named .before .before .before .take-argument .ensures,
       named .before .index .given .1,
-      ← kind .kind-in .ensures,
       ← read .take-conversion-specifier .ensures,
       c .before .read .given .1,
     )
@@ -96,9 +84,8 @@ take-element-spec =
     enum-told
     index-refusal-requires
     returns
-    sub-kind-in
-    shared-slice-read-kind-in
-    kind-in-requires
+    sub-take-conversion-specifier
+    shared-slice-read-take-conversion-specifier
     take-conversion-specifier-requires
     enum-known-read
     enum-told-2

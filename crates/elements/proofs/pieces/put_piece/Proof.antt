@@ -5,7 +5,7 @@ use lib.ListN.{length}
 use Rattle.writing.specs.Writers.{laidIfRoom}
 use Rattle.elements.specs.PieceTexts.{shownPiece}
 use Rattle.elements.specs.Ready.{Ready, unpadded}
-use Rattle.elements.proofs.PieceTexts.{put-sized, argument-in}
+use Rattle.elements.proofs.PieceTexts.{put-sized, found-suited}
 use borrow.Author.Needs.{needs}
 use Rattle.elements.proofs.pieces.put_piece.Statement.{statement}
 use Rattle.elements.proofs.pieces.put_piece.Tie as tie
@@ -32,12 +32,12 @@ put-byte-requires c κs = search needs
 enum-known-piece-3 : tie.Need-enum-known-piece-3
 enum-known-piece-3 c = search needs
 
-put-argument-requires : tie.Need-put-argument-requires
-put-argument-requires c κs =
+put-element-requires : tie.Need-put-element-requires
+put-element-requires c κs =
     let told = c .before .before .piece3 .given in
     let start = c .before .before .before .before .before .before .before in
     let r = subst (Ready (start .args .fmt .now) (start .args .row .now)) (told .1) (start .pre) in
-    argument-in (start .args .fmt .now) (start .args .row .now) (told .0 .0) r
+    found-suited (start .args .fmt .now) (start .args .row .now) (told .0 .0) (r .kept) (r .inside)
 
 same-length : tie.Need-same-length
 same-length c = search needs
@@ -70,7 +70,7 @@ returns-3 : tie.Need-returns-3
 unfolding shownPiece
 returns-3 c =
     let told = c .before .before .before .before .before .piece3 .given .1 in
-    rw told (c .before .before .put-argument .ensures)
+    rw told (c .before .before .put-element .ensures)
 
 pub put-piece-spec : {M : Type 1} → statement M
 put-piece-spec =
@@ -82,7 +82,7 @@ put-piece-spec =
     enum-known-piece-2
     put-byte-requires
     enum-known-piece-3
-    put-argument-requires
+    put-element-requires
     same-length
     returns
     same-length-2

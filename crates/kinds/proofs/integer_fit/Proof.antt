@@ -1,10 +1,10 @@
--- `kinds::string_form` meets its contract: an argument for each kind. Assumes nothing.
+-- `kinds::integer_fit` meets its contract. Assumes nothing.
 use borrow.Author.Needs.{needs}
-use Rattle.kinds.proofs.string_form.Statement.{statement}
-use Rattle.kinds.proofs.string_form.Tie as tie
+use Rattle.kinds.proofs.integer_fit.Statement.{statement}
+use Rattle.kinds.proofs.integer_fit.Tie as tie
 
-pub string-form-spec : {M : Type 1} → statement M
-string-form-spec =
+pub integer-fit-spec : {M : Type 1} → statement M
+integer-fit-spec =
     tie.close
     (tie.spec
     (λ c. search needs)

@@ -1,10 +1,10 @@
--- `kinds::integer_form` meets its contract: an argument for each kind. Assumes nothing.
+-- `kinds::boolean_fit` meets its contract. Assumes nothing.
 use borrow.Author.Needs.{needs}
-use Rattle.kinds.proofs.integer_form.Statement.{statement}
-use Rattle.kinds.proofs.integer_form.Tie as tie
+use Rattle.kinds.proofs.boolean_fit.Statement.{statement}
+use Rattle.kinds.proofs.boolean_fit.Tie as tie
 
-pub integer-form-spec : {M : Type 1} → statement M
-integer-form-spec =
+pub boolean-fit-spec : {M : Type 1} → statement M
+boolean-fit-spec =
     tie.close
     (tie.spec
     (λ c. search needs)
@@ -13,9 +13,9 @@ integer-form-spec =
     (λ c. search needs)
     (λ c. search needs)
     (λ c. search needs)
-    (λ c. simp (c .before .kind .given .1))
     (λ c. search needs)
     (λ c. search needs)
+    (λ c. simp (c .enum-told3 .given .1))
     (λ c. search needs)
     (λ c. search needs)
     (λ c. search needs))
