@@ -225,18 +225,21 @@ fn time_fit(component: TimeFormat, kind: Kind) -> Fit
     }
 }
 
-// Whether a conversion fits a kind, and how it is printed then.
-pub fn validate(conversion: ConversionType, kind: Kind) -> Fit
-    ensures { λ r. ⌜ r ≡ fitOf conversion kind ⌝ }
+// Whether a conversion fits the kind of a row's kind byte, and how it is printed then. Each arm asks for the kind itself, so that the compiler compares the
+// byte with those that fit there.
+pub fn validate(conversion: ConversionType, byte: u8) -> Fit
+    ensures { λ r. ⌜ r ≡ fitOf conversion (kindIn byte) ⌝ }
 {
     match conversion {
-        ConversionType::Boolean => boolean_fit(kind),
-        ConversionType::HexHash => hash_fit(kind),
-        ConversionType::String => string_fit(kind),
-        ConversionType::Char => integer_fit(IntegerForm::Scalar, kind),
-        ConversionType::Integer(radix) => integer_fit(IntegerForm::Numeral(radix), kind),
-        ConversionType::DecimalFloat => decimal_float_fit(kind),
-        ConversionType::HexFloat => hex_float_fit(kind),
-        ConversionType::Time(component) => time_fit(component, kind),
+        ConversionType::Boolean => boolean_fit(kind_in(byte)),
+        ConversionType::HexHash => hash_fit(kind_in(byte)),
+        ConversionType::String => string_fit(kind_in(byte)),
+        ConversionType::Char => integer_fit(IntegerForm::Scalar, kind_in(byte)),
+        ConversionType::Integer(radix) => {
+            integer_fit(IntegerForm::Numeral(radix), kind_in(byte))
+        }
+        ConversionType::DecimalFloat => decimal_float_fit(kind_in(byte)),
+        ConversionType::HexFloat => hex_float_fit(kind_in(byte)),
+        ConversionType::Time(component) => time_fit(component, kind_in(byte)),
     }
 }

@@ -247,7 +247,7 @@ pub fn take_conversion_specifier(fmt: &[u8], at: usize, argument: usize, byte: u
     else {
         return letter_refusal(letter);
     };
-    let fit = kinds::validate(conversion, kinds::kind_in(byte));
+    let fit = kinds::validate(conversion, byte);
     let Fit::Fits(form) = fit else {
         return Specifier::Refused {
             number: refusals::UNFIT_LETTER,

@@ -23,7 +23,7 @@ returns-2 c =
 
 -- by whether the letter fits
 judged : (c : tie.After-validate) →
-    let letter = c .before .before .before in
+    let letter = c .before .before in
     let parts = letter .before .before .before .before in
     let a = parts .before .before .before .before .args in
     let read = letter .letter .given .0 in
@@ -31,14 +31,13 @@ judged : (c : tie.After-validate) →
     ≡ fitted (a .argument) (parts .taken .given .0 .0) (read .0) (read .1 .0) (read .1 .1 .0) (c .validate .result)
 unfolding specifierAt
 judged c =
-    let letter = c .before .before .before in
+    let letter = c .before .before in
     let parts = letter .before .before .before .before in
     simp (
       ← parts .before .before .take-parts .ensures,
       parts .taken .given .1,
       ← letter .before .before .take-letter .ensures,
       letter .letter .given .1,
-      ← c .before .kind-in .ensures,
       ← c .validate .ensures,
     )
 
@@ -64,7 +63,6 @@ take-conversion-specifier-spec =
     (λ c. search needs)
     (λ c κs. search needs)
     returns-2
-    (λ c κs. search needs)
     (λ c κs. search needs)
     (λ c. search needs)
     (λ c. search needs)
