@@ -2,11 +2,10 @@
 use mathlib.Core.Path.{_≡_, refl, sym, _∙_, subst}
 use mathlib.Core.Bool.{false}
 use Prim.Native.Nat.{ℕ, _-_, _*_, _^_, _≤_, _<_}
-use native.Mathlib.Nat.{lt-trans, mul-lt-mul-of-pos-right, mul-le-mul-right, lt-of-not-le, not-le-of-lt}
+use native.Mathlib.Nat.{lt-trans, mul-lt-mul-of-pos-right, mul-le-mul-right}
 use native.Mathlib.Decide.{ℕ-discrete}
 use native.Mathlib.Omega.{arith}
 use lib.Dec.{lit<}
-use lib.Pow.{pow-mono}
 use lib.Ieee.{Float, binary64, ofBits, ofFields, odd, mul}
 use lib.Ieee.Bits.{ofBits-toBits, toBits-lt}
 use lib.Ieee.Fits.{mul-fits}
@@ -86,11 +85,3 @@ module _ (b : ℕ) (p : 1 ≤ b) (h : b < 2 ^ 52) where
         [ yes e ↦ absurd (omega (arith, scaled-exact, units-zero (scaledBits b) e, field-bounds (scaledBits b) .1)) | no n ↦ omega arith ],
     scaled-finite,
   )
-
-  -- indeed not far from the least
-  pub scaled-small : exponentField (scaledBits b) ≤ 54
-  scaled-small =
-      let x = exponentField (scaledBits b) - 1 in
-      let under : 2 ^ x < 2 ^ 54 = omega (arith, units-least (scaledBits b) (scaled-normal .0), scaled-exact) in
-      let below : x < 54 = lt-of-not-le (λ (g : 54 ≤ x). not-le-of-lt under (pow-mono g)) in
-      omega arith

@@ -5,8 +5,7 @@ use mathlib.Core.List.{List}
 use Prim.Native.Nat.{ℕ, zero, suc, _-_, _≤_, _<_}
 use native.Mathlib.Omega.{arith}
 use lib.Dec.{ltb}
-use lib.ListN.{length, getD, take, length-take}
-use lib.Seq.{take-all, length-take-le}
+use lib.ListN.{length, getD, length-take}
 use borrow.Author.Tests.{le-leb, lt-leb, le-ltb, ltb-true, ltb-false}
 use Rattle.writing.proofs.Choose.{by-test}
 use Rattle.numerals.specs.declared.NumericParam.{NumericParam}
@@ -55,15 +54,6 @@ pub cut-shorter : (p : NumericParam) (s : List ℕ) → length (cutTo p s) ≤ l
 unfolding cutTo
 cut-shorter FromArgument s = omega arith
 cut-shorter (Literal n) s = simp length-take (omega arith)
-
-pub cut-again : (p : NumericParam) (s : List ℕ) → cutTo p (cutTo p s) ≡ cutTo p s
-unfolding cutTo
-cut-again FromArgument s = refl
-cut-again (Literal n) s =
-    let w = cut-within s n in
-    let t = take (cutLength n s) s in
-    let l = length-take-le (cutLength n s) s (w .0) in
-    take-all (cutLength n t) t (omega (arith, l, cut-whole t n (omega (arith, l))))
 
 pub starts-below : (b : ℕ) → b < 128 → continues b ≡ false
 starts-below b h = simp (lt-leb 128 b h)

@@ -1,6 +1,6 @@
 -- A call on a list is refused with a number and a place exactly where their cause holds, and the numbers are 1 to 21. Assumes nothing.
 use mathlib.Core.Path.{_≡_, refl, sym, ap, subst, _∙_}
-use mathlib.Core.Bool.{true, false}
+use mathlib.Core.Bool.{false}
 use mathlib.Core.List.{List}
 use Prim.Native.Nat.{ℕ, _≤_, _<_}
 use native.Mathlib.Omega.{arith}
@@ -8,13 +8,11 @@ use lib.Dec.{leb}
 use lib.ListN.{length}
 use borrow.Author.Tests.{le-leb, lt-leb, leb-true, leb-false}
 use Rattle.refusals.specs.Limits.{mostGates}
-use Rattle.writing.specs.Choose.{choose}
 use Rattle.writing.proofs.Choose.{by-test}
 use Rattle.outcomes.specs.Printed.{measured}
 use Rattle.outcomes.specs.declared.Outcome.{Outcome}
 use Rattle.outcomes.specs.declared.Outcome.the-variants as O
 use Rattle.causes.specs.Calls.{measuring, Refusal, ofOutcome}
-use Rattle.causes.specs.Causes.{Cause}
 use Rattle.causes.proofs.Causes.{exactly, number-in-table}
 use mathlib.Core.Option.{Option, none, some}
 use Rattle.gates.specs.Gates.{Gate, isPresent, Change, joins, leaves, done, refused, ifMeasured, answer}

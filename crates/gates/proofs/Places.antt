@@ -1,17 +1,15 @@
 -- Gates place by place: which are present, the largest length, and one taken out. Assumes nothing.
-use mathlib.Core.Path.{_≡_, refl, sym, ap, _∙_}
+use mathlib.Core.Path.{_≡_, refl, ap, _∙_}
 use mathlib.Core.Bool.{Bool, true, false, _||_, true≢false}
 use mathlib.Core.List.{List, [], _∷_, _++_}
-use Prim.Native.Nat.{ℕ, zero, suc, _+_, _-_, _≤_, _<_, max}
-use native.Mathlib.Decide.{decLt}
+use Prim.Native.Nat.{ℕ, zero, suc, _+_, _-_, _<_, max}
 use native.Mathlib.Omega.{arith}
 use lib.Dec.{eqb}
-use lib.ListN.{length, getD, take, set, length-set}
+use lib.ListN.{length, set, length-set}
 use lib.Seq.{length-take-le, getD-take, getD-set-same, getD-set-other}
 use borrow.Author.Tests.{eq-eqb, ne-eqb}
-use Rattle.writing.specs.Choose.{choose}
 use Rattle.gates.specs.Gates.{Gate, isPresent, without, pieceLength, largest}
-use Rattle.gates.specs.Same.{SameGates, noGate, gateAt}
+use Rattle.gates.specs.Same.{noGate, gateAt}
 use Rattle.gates.proofs.Same.{takenOut}
 
 pub present-at : (n : ℕ) (gates : List Gate) (i : ℕ) → i < length gates → gateAt gates i .number ≡ n → isPresent n gates ≡ true

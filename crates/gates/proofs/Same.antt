@@ -1,11 +1,11 @@
 -- What is said of gates does not depend on their order; and a gate taken out, where the last one takes its place. Assumes nothing.
-use mathlib.Core.Path.{_≡_, refl, sym, ap, subst, _∙_}
+use mathlib.Core.Path.{_≡_, refl, ap, _∙_}
 use mathlib.Core.Bool.{Bool, true, false, _||_}
 use mathlib.Core.List.{List, [], _∷_, _++_}
-use Prim.Native.Nat.{ℕ, zero, suc, _+_, _-_, _≤_, _<_, max}
+use Prim.Native.Nat.{ℕ, zero, suc, _+_, _-_, _<_, max}
 use native.Mathlib.Omega.{arith}
 use lib.Dec.{eqb}
-use lib.ListN.{length, getD, take, set}
+use lib.ListN.{length, take, set}
 use Rattle.writing.specs.Choose.{choose}
 use Rattle.gates.specs.Gates.{Gate, isPresent, without, largest}
 use Rattle.gates.specs.Same.{SameGates, none, next, swapped, through, gateAt}

@@ -1,5 +1,4 @@
 -- A law of the table: what holds of every form holds of the form in which a kind is printed. Assumes nothing.
-use mathlib.Core.Path.{_≡_, refl}
 use Rattle.kinds.specs.declared.letters.TimeFormat.{TimeFormat}
 use Rattle.kinds.specs.declared.letters.ConversionType.{ConversionType}
 use Rattle.kinds.specs.declared.letters.ConversionType.the-variants as C

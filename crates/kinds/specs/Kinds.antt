@@ -11,6 +11,7 @@ use Rattle.kinds.specs.declared.Kind.{Kind}
 use Rattle.kinds.specs.declared.Kind.the-variants as K
 use Rattle.kinds.specs.declared.IntegerForm.{IntegerForm}
 use Rattle.kinds.specs.declared.IntegerForm.the-variants.{Numeral, Scalar, Digits}
+use Rattle.kinds.specs.declared.Form.{Form}
 use Rattle.kinds.specs.declared.Form.the-variants.{Integer, HexFloat, Boolean, Text, Time, NotPrinted}
 use Rattle.kinds.specs.declared.Fit.{Fit}
 use Rattle.kinds.specs.declared.Fit.the-variants.{Fits, Unfit}
@@ -63,12 +64,15 @@ allKnown (b ∷ bs) = isKnown (kindOf b) && allKnown bs
 abbrev pub integersAlone : IntegerForm → Kind → Fit
 integersAlone f k = byKind (λ i. Fits (Integer f i)) Unfit Unfit Unfit Unfit Unfit k
 
+abbrev pub numbersAlone : Form → Kind → Fit
+numbersAlone f k = byKind (λ _. Fits NotPrinted) (Fits f) Unfit Unfit Unfit Unfit k
+
 abbrev pub fitOf : ConversionType → Kind → Fit
 fitOf (C.Integer r) k = integersAlone (Numeral r) k
 fitOf C.Char k = integersAlone Scalar k
 fitOf C.String k = byKind (λ i. Fits (Integer Digits i)) (Fits NotPrinted) (Fits NotPrinted) (Fits Text) (Fits NotPrinted) Unfit k
-fitOf C.HexFloat k = byKind (λ _. Fits NotPrinted) (Fits HexFloat) Unfit Unfit Unfit Unfit k
-fitOf C.DecimalFloat k = byKind (λ _. Fits NotPrinted) (Fits NotPrinted) Unfit Unfit Unfit Unfit k
+fitOf C.HexFloat k = numbersAlone HexFloat k
+fitOf C.DecimalFloat k = numbersAlone NotPrinted k
 fitOf C.Boolean k = byKind (λ _. Unfit) Unfit (Fits Boolean) Unfit Unfit Unfit k
 fitOf (C.Time t) k = byKind (λ _. Unfit) Unfit Unfit Unfit (Fits (Time t)) Unfit k
 fitOf C.HexHash k = byKind (λ _. Fits NotPrinted) (Fits NotPrinted) (Fits NotPrinted) (Fits NotPrinted) (Fits NotPrinted) Unfit k

@@ -7,7 +7,7 @@ use letters::TimeFormat;
 use numerals::Radix;
 ghost use mathlib.Core.Path.{_≡_};
 ghost use mathlib.Core.Bool.{true};
-ghost use Rattle.kinds.specs.Kinds.{kindOf, kindIn, isNull, isKnown, allKnown, integersAlone, fitOf};
+ghost use Rattle.kinds.specs.Kinds.{kindOf, kindIn, isNull, isKnown, allKnown, integersAlone, numbersAlone, fitOf};
 
 // An integer kind: its width in bits, and whether its values have a sign.
 pub struct IntegerKind {
@@ -169,27 +169,13 @@ fn hash_fit(kind: Kind) -> Fit
     }
 }
 
-// %e, %f and %g
-fn decimal_float_fit(kind: Kind) -> Fit
-    ensures { λ r. ⌜ r ≡ fitOf ConversionType.DecimalFloat kind ⌝ }
+// Floats in this form; integers fit too, and are not printed.
+fn number_fit(form: Form, kind: Kind) -> Fit
+    ensures { λ r. ⌜ r ≡ numbersAlone form kind ⌝ }
 {
     match kind {
         Kind::Integer(_) => Fit::Fits(Form::NotPrinted),
-        Kind::Float64 => Fit::Fits(Form::NotPrinted),
-        Kind::Boolean => Fit::Unfit,
-        Kind::Text => Fit::Unfit,
-        Kind::Timestamp => Fit::Unfit,
-        Kind::NoKind => Fit::Unfit,
-    }
-}
-
-// %a
-fn hex_float_fit(kind: Kind) -> Fit
-    ensures { λ r. ⌜ r ≡ fitOf ConversionType.HexFloat kind ⌝ }
-{
-    match kind {
-        Kind::Integer(_) => Fit::Fits(Form::NotPrinted),
-        Kind::Float64 => Fit::Fits(Form::HexFloat),
+        Kind::Float64 => Fit::Fits(form),
         Kind::Boolean => Fit::Unfit,
         Kind::Text => Fit::Unfit,
         Kind::Timestamp => Fit::Unfit,
@@ -238,8 +224,8 @@ pub fn validate(conversion: ConversionType, byte: u8) -> Fit
         ConversionType::Integer(radix) => {
             integer_fit(IntegerForm::Numeral(radix), kind_in(byte))
         }
-        ConversionType::DecimalFloat => decimal_float_fit(kind_in(byte)),
-        ConversionType::HexFloat => hex_float_fit(kind_in(byte)),
+        ConversionType::DecimalFloat => number_fit(Form::NotPrinted, kind_in(byte)),
+        ConversionType::HexFloat => number_fit(Form::HexFloat, kind_in(byte)),
         ConversionType::Time(component) => time_fit(component, kind_in(byte)),
     }
 }

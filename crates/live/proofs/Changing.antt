@@ -4,22 +4,20 @@ use mathlib.Core.Bool.{true, false}
 use mathlib.Core.List.{List, [], _∷_, _++_}
 use Prim.Native.Nat.{ℕ, _+_, _≤_, _<_, min}
 use native.Mathlib.Omega.{arith}
-use lib.Dec.{eqb, leb}
 use lib.ListN.{length, set}
-use borrow.Author.Tests.{le-leb, lt-leb, ne-eqb, eq-eqb}
+use borrow.Author.Tests.{le-leb, lt-leb, ne-eqb}
 use Rattle.refusals.specs.Limits.{mostGates, mostPieces}
-use Rattle.writing.specs.Choose.{choose}
 use Rattle.outcomes.specs.Printed.{measured}
 use Rattle.outcomes.specs.declared.Outcome.{Outcome}
 use Rattle.outcomes.specs.declared.Outcome.the-variants as O
 use Rattle.causes.specs.Calls.{measuring, ofOutcome}
 use Rattle.causes.proofs.Causes.{number-in-table}
-use Rattle.gates.specs.Gates.{Gate, isPresent, without, Change, joins, leaves, done, refused, ifMeasured, answer, changed, after, pieceLength}
+use Rattle.gates.specs.Gates.{Gate, isPresent, without, Change, joins, leaves, done, refused, answer, changed, after, pieceLength}
 use Rattle.gates.specs.Same.{SameGates, next, through, gateAt}
 use Rattle.gates.specs.declared.Changed.{Changed}
 use Rattle.gates.proofs.Same.{same-length, same-present, same-without, same-behind, takenOut}
 use Rattle.gates.proofs.Places.{present-at, absent}
-use Rattle.live.specs.Lists.{countOf, numberAt, Holds, Represents}
+use Rattle.live.specs.Lists.{countOf, numberAt, Represents}
 use Rattle.live.specs.Steps.{PlaceOf, lengthIn, TakenIn, TakenOut}
 use Rattle.live.specs.Promises.{Changes}
 use Rattle.live.proofs.Joining.{holds-more}

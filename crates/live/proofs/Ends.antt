@@ -1,12 +1,11 @@
 -- The lengths of pieces, from the ends that measuring leaves. Assumes nothing.
-use mathlib.Core.Path.{_≡_, refl, sym, ap, subst, _∙_}
+use mathlib.Core.Path.{_≡_, refl, sym, ap, _∙_}
 use mathlib.Core.List.{List, [], map}
-use Prim.Native.Nat.{ℕ, zero, suc, _+_, _%_, _^_, _≤_, _<_}
+use Prim.Native.Nat.{ℕ, zero, suc, _%_, _^_, _≤_, _<_}
 use native.Mathlib.Decide.{decLt}
 use native.Mathlib.Nat.{zero-add}
 use native.Mathlib.Omega.{arith}
-use lib.Dec.{ltb}
-use lib.ListN.{length, getD, take, drop, List·getD-append, List·getD-map, List·getD-eq-default, length-map, length-take}
+use lib.ListN.{length, getD, take, List·getD-append, List·getD-map, List·getD-eq-default, length-map, length-take}
 use lib.Seq.{getD-take}
 use borrow.Author.Tests.{lt-ltb, le-ltb}
 use Rattle.refusals.specs.Limits.{mostFormat, mostPieces}
@@ -17,12 +16,11 @@ use Rattle.rows.specs.Row.{kindsOf}
 use Rattle.rows.proofs.Rows.{AllBytes}
 use Rattle.outcomes.specs.Printed.{joined, texts, endsFrom, measured}
 use Rattle.outcomes.specs.Demand.{endBefore}
-use Rattle.outcomes.specs.declared.Outcome.{Outcome}
 use Rattle.outcomes.specs.declared.Outcome.the-variants.{Accepted, Refused}
-use Rattle.outcomes.proofs.Accepted.{Accepts, accepted}
+use Rattle.outcomes.proofs.Accepted.{accepted}
 use Rattle.outcomes.proofs.Joined.{ends-length, nth-end, between}
 use Rattle.outcomes.proofs.Texts.{texts-length}
-use Rattle.printing.specs.Tallies.{laidEnds, lowEnds}
+use Rattle.printing.specs.Tallies.{laidEnds}
 use Rattle.printing.specs.Stages.{Staged}
 use Rattle.printing.proofs.Staged.{all-texts}
 use Rattle.bounds.proofs.Bounds.{text-short}

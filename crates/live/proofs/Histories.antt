@@ -1,6 +1,6 @@
 -- 02, E4: after every sequence of calls, from an emptied list on, its answers and its lengths are those of the gates present. Assumes nothing.
 use mathlib.Core.Path.{_≡_, refl, ap, _∙_}
-use mathlib.Core.List.{List, [], _∷_}
+use mathlib.Core.List.{List, _∷_}
 use Prim.Native.Nat.{ℕ}
 use Rattle.gates.specs.Gates.{Change, answer, presentAfter, answers}
 use Rattle.gates.specs.declared.Changed.{Changed}

@@ -1,5 +1,5 @@
 -- A gate taken in behind the others: what the steps leave. Assumes nothing.
-use mathlib.Core.Path.{_≡_, refl, sym, ap, _∙_}
+use mathlib.Core.Path.{_≡_, refl, _∙_}
 use mathlib.Core.List.{List}
 use Prim.Native.Nat.{ℕ, _+_, _*_, _≤_, _<_, max}
 use native.Mathlib.Decide.{decLt}
@@ -7,7 +7,7 @@ use native.Mathlib.Omega.{arith}
 use lib.ListN.{length, getD, set, length-set}
 use lib.Seq.{getD-set-same, getD-set-other}
 use Rattle.refusals.specs.Limits.{mostPieces}
-use Rattle.live.specs.Lists.{numberAt, longestAt, lengthAt}
+use Rattle.live.specs.Lists.{longestAt}
 use Rattle.live.specs.Steps.{lengthIn, Entered, TakenIn}
 
 pub entered-none : (a : ℕ) (f : ℕ → ℕ) (m : List ℕ) → Entered a 0 f m m

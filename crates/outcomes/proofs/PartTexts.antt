@@ -2,7 +2,7 @@
 -- demand 3 says of pieces, it says of parts. Of rows that keep their layout.
 use mathlib.Core.Path.{_≡_, refl, sym, ap, subst, _∙_}
 use mathlib.Core.Bool.{true, false}
-use mathlib.Core.List.{List, [], _∷_, _++_, append-assoc, append-nil}
+use mathlib.Core.List.{List, [], _∷_, _++_, append-assoc}
 use Prim.Native.Nat.{ℕ, _+_, _-_, _<_}
 use native.Mathlib.Omega.{arith}
 use Prim.Native.Char.{code}
@@ -12,12 +12,11 @@ use Rattle.writing.specs.Text.{ascii, has}
 use Rattle.numerals.specs.declared.NumericParam.{NumericParam}
 use Rattle.kinds.specs.declared.letters.ConversionType.{ConversionType}
 use Rattle.kinds.specs.declared.letters.ConversionType.the-variants as C
-use Rattle.specifiers.specs.declared.Element.{Element}
-use Rattle.parsing.specs.Listed.{Placed, placed}
+use Rattle.parsing.specs.Listed.{Placed}
 use Rattle.parsing.specs.declared.Piece.{Piece}
 use Rattle.parsing.specs.declared.Piece.the-variants.{Fixed}
 use Rattle.grammar.specs.Runs.{begins}
-use Rattle.grammar.specs.Parts.{Part, text, percent, newline, element, partBytes, bytesBefore}
+use Rattle.grammar.specs.Parts.{Part, partBytes, bytesBefore}
 use Rattle.grammar.specs.Pieces.{lettersOf, PieceIs, Lists}
 use Rattle.grammar.specs.Pieces as Q
 use Rattle.grammar.specs.Readings.{Whole}

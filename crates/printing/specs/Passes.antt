@@ -1,4 +1,4 @@
--- What one pass over the pieces answers and leaves, and what checking makes of it: for the contracts of this crate and of the steps of `printing`. Nothing in
+-- What one pass over the pieces answers and leaves, and what checking makes of it: for the contracts of the steps of this crate. Nothing in
 -- the promises of checking, measuring and printing speaks of these.
 use Prim.Native.Nat.{ℕ, _≤_}
 use mathlib.Core.Path.{_≡_}

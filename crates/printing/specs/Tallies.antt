@@ -1,4 +1,4 @@
--- What the pieces of a format add up to, and what they leave of output and ends: for the contracts of this crate, of the pass and of the steps of `printing`.
+-- What the pieces of a format add up to, and what they leave of output and ends: for the contracts of the steps of this crate.
 -- Nothing in the promises of checking, measuring and printing speaks of these.
 use Prim.Native.Nat.{ℕ, _+_, _-_, _*_, _%_, _^_, _≤_, min}
 use mathlib.Core.List.{List, [], _∷_, _++_, map}

@@ -9,7 +9,6 @@ use lib.Dec.{leb, eqb}
 use lib.ListN.{length, getD, take, drop, length-drop}
 use lib.Seq.{getD-take, getD-drop, length-take-le}
 use borrow.Author.Tests.{leb-true, eqb-true}
-use borrow.Rule.Slice.PartAt.{part-to-end}
 use Rattle.refusals.specs.Limits.{mostValues, mostText}
 use Rattle.words.specs.LittleEndian.{littleEndian, wordAt}
 use Rattle.rows.specs.Entry.{isEntry}
@@ -85,12 +84,6 @@ module _ (row : List ℕ) (kept : isRow row ≡ true) where
       let w = row-shape .0 in
       length-take-le (countOf row) (drop 6 row) (simp length-drop (omega arith))
 
-  -- that of the argument behind n others
-  pub next-kind : (n : ℕ) → n < length (kindsOf row) → kindByteOf row (n + 1) ≡ getD (kindsOf row) n 0
-  next-kind n h =
-      let m : n + 1 - 1 ≡ n = omega arith in
-      sym (kind-byte row (n + 1) (omega arith) (omega (arith, kinds-length))) ∙ ap (λ (i : ℕ). getD (kindsOf row) i 0) m
-
   pub text-length : length (textArea row) ≡ textSize row
   text-length =
       let w = row-shape .0 in
@@ -109,10 +102,6 @@ Answered row Broken b = b ≡ false
 answered : (row : List ℕ) (b : Bool) → Answered row (choose b (λ _. Row (countOf row)) (λ _. Broken)) b
 answered row true = (refl, refl)
 answered row false = refl
-
--- a row that is handed on whole
-pub row-whole : (row : List ℕ) → rowOf (take (length row - 0) (drop 0 row)) ≡ rowOf row
-row-whole row = ap rowOf (part-to-end row 0)
 
 pub row-read : (row : List ℕ) (n : ℕ) → rowOf row ≡ Row n → (isRow row ≡ true) × (n ≡ countOf row)
 unfolding rowOf

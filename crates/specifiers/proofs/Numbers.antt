@@ -59,9 +59,6 @@ module _ (s : List ℕ) (at : ℕ) where
   unfolding numberAt
   number-denotes = taken-denotes at (leadingDigits (drop at s))
 
-  pub number-value : (v next : ℕ) → numberAt s at ≡ N.Value v next → Denotes at (leadingDigits (drop at s)) (N.Value v next)
-  number-value v next e = rw e at number-denotes
-
   pub number-large : numberAt s at ≡ N.TooLarge → largestNumber < numberOf 10 (leadingDigits (drop at s))
   number-large e = rw e at number-denotes
 

@@ -36,6 +36,6 @@ validate-spec =
     (λ c. simp (c .before .before .enum-told3 .given .1, ← c .before .kind-in3 .ensures) (c .string-fit .ensures))
     (λ c. simp (c .before .before .enum-told4 .given .1, ← c .before .kind-in4 .ensures) (c .integer-fit .ensures))
     (λ c. simp (c .before .before .before .conversion .given .1, ← c .before .kind-in5 .ensures) (c .integer-fit2 .ensures))
-    (λ c. simp (c .before .before .enum-told5 .given .1, ← c .before .kind-in6 .ensures) (c .decimal-float-fit .ensures))
-    (λ c. simp (c .before .before .enum-told6 .given .1, ← c .before .kind-in7 .ensures) (c .hex-float-fit .ensures))
+    (λ c. simp (c .before .before .enum-told5 .given .1, ← c .before .kind-in6 .ensures) (c .number-fit .ensures))
+    (λ c. simp (c .before .before .enum-told6 .given .1, ← c .before .kind-in7 .ensures) (c .number-fit2 .ensures))
     (λ c. simp (c .before .before .before .conversion2 .given .1, ← c .before .kind-in8 .ensures) (c .time-fit .ensures)))

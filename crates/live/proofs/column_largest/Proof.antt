@@ -1,7 +1,7 @@
 -- `live::column_largest` meets its contract. Assumes nothing.
 use Prim.Native.Nat.{ℕ}
 use Rattle.live.proofs.Columns.{column-more, column-reaches}
-use Prim.Native.Nat.{_-_, _≤_, _<_}
+use Prim.Native.Nat.{_-_, _≤_}
 use mathlib.Core.Path.{_≡_, refl, sym, ap, _∙_}
 use native.Mathlib.Omega.{arith}
 use Rattle.live.specs.Steps.{columnLargest}

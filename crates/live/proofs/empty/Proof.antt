@@ -2,8 +2,8 @@
 use lib.ListN.{length-set}
 use lib.Seq.{getD-set-same}
 use Rattle.live.proofs.Joining.{emptied}
-use Prim.Native.Nat.{_-_, _≤_, _<_}
-use mathlib.Core.Path.{_≡_, refl, sym, ap, _∙_}
+use Prim.Native.Nat.{_-_, _≤_}
+use mathlib.Core.Path.{_≡_, refl, sym, _∙_}
 use native.Mathlib.Omega.{arith}
 use lib.ListN.{length}
 use Rattle.live.specs.Steps.{Stored}

@@ -1,9 +1,8 @@
 -- `live::lengths` meets its contract. Assumes nothing.
 use Rattle.gates.proofs.Same.{same-largest}
-use Prim.Native.Nat.{_-_, _≤_, _<_}
-use mathlib.Core.Path.{_≡_, refl, sym, ap, _∙_}
+use Prim.Native.Nat.{_-_, _≤_}
+use mathlib.Core.Path.{_∙_}
 use native.Mathlib.Omega.{arith}
-use lib.ListN.{length}
 use Rattle.live.specs.Lists.{longestAt}
 use Rattle.live.specs.Steps.{Stored}
 use Rattle.live.proofs.Stores.{stored-none, stored-first, first-words}

@@ -1,7 +1,7 @@
 -- `live::place_of` meets its contract. Assumes nothing.
 use native.Mathlib.Decide.{decLt}
 use Prim.Native.Nat.{ℕ, _-_, _≤_, _<_}
-use mathlib.Core.Path.{_≡_, refl, sym, ap, _∙_}
+use mathlib.Core.Path.{_≡_}
 use native.Mathlib.Omega.{arith}
 use Rattle.live.specs.Lists.{numberAt}
 use borrow.Author.Needs.{needs}

@@ -92,7 +92,7 @@ returns c =
     let p = known .before .piece2 .given .0 .0 .precision in
     let u = c .cut .ensures in (
       simp (known .before .piece2 .given .1, is-a-text told)
-      (u ∙ ap (cutTo p) (named .named-text .ensures .0 ∙ ap (namedText row) (found .entry .ensures))),
+          (u ∙ ap (cutTo p) (named .named-text .ensures .0 ∙ ap (namedText row) (found .entry .ensures))),
       omega (arith, ap length u, cut-shorter p (named .named-text .result .now), named .named-text .ensures .1),
     )
 

@@ -1,6 +1,6 @@
 -- `printing::tallies::add_size` meets its contract. Assumes nothing.
 use Prim.Native.Nat.{_+_, _*_, _^_, _≤_, _<_}
-use mathlib.Core.Path.{_≡_, refl, sym, ap, subst, _∙_}
+use mathlib.Core.Path.{refl, sym, ap, subst, _∙_}
 use native.Mathlib.Omega.{arith}
 use lib.Seq.{set-out}
 use Rattle.elements.specs.Sizes.{SizeBelow}

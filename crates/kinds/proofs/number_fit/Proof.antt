@@ -1,10 +1,10 @@
--- `kinds::decimal_float_fit` meets its contract. Assumes nothing.
+-- `kinds::number_fit` meets its contract. Assumes nothing.
 use borrow.Author.Needs.{needs}
-use Rattle.kinds.proofs.decimal_float_fit.Statement.{statement}
-use Rattle.kinds.proofs.decimal_float_fit.Tie as tie
+use Rattle.kinds.proofs.number_fit.Statement.{statement}
+use Rattle.kinds.proofs.number_fit.Tie as tie
 
-pub decimal-float-fit-spec : {M : Type 1} → statement M
-decimal-float-fit-spec =
+pub number-fit-spec : {M : Type 1} → statement M
+number-fit-spec =
     tie.close
     (tie.spec
     (λ c. search needs)
