@@ -27,7 +27,9 @@ use Rattle.grammar.proofs.Listed.{lists-length, lists-largest}
 use Rattle.grammar.proofs.Letters.{never}
 use Rattle.grammar.proofs.Readings.{Ends, made, stops, ends, read-whole}
 use Rattle.rows.specs.Row.{kindsOf, isRow}
-use Rattle.outcomes.specs.Printed.{printedText, measured, ifRoom, printed}
+use Rattle.outcomes.specs.Printed.{printedText, measured, ifRoom, printed, joined}
+use Rattle.outcomes.specs.PartTexts.{PartTexts}
+use Rattle.outcomes.proofs.PartTexts.{part-texts}
 use Rattle.outcomes.specs.declared.Outcome.{Outcome}
 use Rattle.outcomes.specs.declared.Outcome.the-variants.{Accepted}
 use Rattle.causes.specs.Calls.{Call, checking, measuring, printing, formatIn, kindsIn, OfRow, measured-row, printed-row}
@@ -35,7 +37,7 @@ use Rattle.causes.specs.Calls.{Refusal, ofChecked, ofOutcome, refusal}
 use Rattle.causes.specs.Causes.{BadInput, Begins, AllPrinted, FirstUnprinted, here, earlier, NoRoom, Cause}
 use Rattle.causes.specs.Causes as K
 use Rattle.causes.proofs.Inputs.{kinds-good, bad-kinds, kinds-bad, checked-kinds, row-good, measured-bad, printed-bad}
-use Rattle.causes.proofs.Refused.{read-checked, accepted-measured, refuses}
+use Rattle.causes.proofs.Refused.{read-checked, accepted-measured, refuses, text-is}
 use Rattle.causes.proofs.Stops.{Told, fine, found, told}
 
 -- Every call has a cause, or is accepted.
@@ -46,13 +48,13 @@ data Judged (call : Call) : Type 0 where
 -- A format that is short and well-formed, or the cause that it is not.
 by-format : (call : Call) → (length (formatIn call) ≤ mostFormat → wellFormed (formatIn call) ≡ true → Judged call) → Judged call
 by-format call f = elim (decLt mostFormat (length (formatIn call))) [
-  | yes h ↦ caused (K.long h)
+  | yes h ↦ caused (K.earlier-stop (K.long h))
   | no h ↦ go (wellFormed (formatIn call)) refl (omega arith)
 ]
   where
     go : (t : Bool) → wellFormed (formatIn call) ≡ t → length (formatIn call) ≤ mostFormat → Judged call
     go true q h = f h q
-    go false q h = caused (K.malformed h q)
+    go false q h = caused (K.earlier-stop (K.malformed h q))
 
 -- what checking accepts
 checked-whole : {s ks : List ℕ} {parts : List Part} → length s ≤ mostFormat → wellFormed s ≡ true
@@ -69,7 +71,7 @@ judged-checking : (s ks : List ℕ) → Judged (checking s ks)
 judged-checking s ks = by-format (checking s ks) (λ h f. go (leb (length ks) mostKinds && allKnown ks) refl h f)
   where
     go : (t : Bool) → (leb (length ks) mostKinds && allKnown ks) ≡ t → length s ≤ mostFormat → wellFormed s ≡ true → Judged (checking s ks)
-    go false q h f = caused (K.input h f (bad-kinds s ks q))
+    go false q h f = caused (K.earlier-stop (K.input h f (bad-kinds s ks q)))
     go true q h f = by-end (ends s ks)
       where
         begun : Begins (checking s ks)
@@ -77,7 +79,7 @@ judged-checking s ks = by-format (checking s ks) (λ h f. go (leb (length ks) mo
 
         by-end : Ends s ks → Judged (checking s ks)
         by-end (made w) = accepted (ap ofChecked (checked-whole h f q w))
-        by-end (stops x) = caused (K.reading begun x)
+        by-end (stops x) = caused (K.earlier-stop (K.reading begun x))
 
 -- Of measuring and printing: what a row that is printed comes to is left to `room`.
 module _ (call : Call) (s row : List ℕ) (of : OfRow call row) (same-format : formatIn call ≡ s) (same-kinds : kindsIn call ≡ kindsOf row)
@@ -88,7 +90,7 @@ module _ (call : Call) (s row : List ℕ) (of : OfRow call row) (same-format : f
   by-row = by-format call (λ h f. go (isRow row) refl h f)
     where
       go : (t : Bool) → isRow row ≡ t → length (formatIn call) ≤ mostFormat → wellFormed (formatIn call) ≡ true → Judged call
-      go false q h f = caused (K.input h f (K.broken-row of q))
+      go false q h f = caused (K.earlier-stop (K.input h f (K.broken-row of q)))
       go true q h f = by-end (ends s (kindsOf row))
         where
           begun : Begins call
@@ -100,13 +102,13 @@ module _ (call : Call) (s row : List ℕ) (of : OfRow call row) (same-format : f
           by-told : (parts : List Part) → Whole s (kindsOf row) parts → Told (AllPrinted row parts) (FirstUnprinted row parts) → Judged call
           by-told parts w (fine x) =
               room (subst (λ (l : List ℕ). length l ≤ mostFormat) same-format h) (ap wellFormed (sym same-format) ∙ f) q parts w x begun
-          by-told parts w (found x) = caused (K.unprinted begun of (as-format w) x)
+          by-told parts w (found x) = caused (K.earlier-stop (K.unprinted begun of (as-format w) x))
 
           by-end : Ends s (kindsOf row) → Judged call
           by-end (made {parts} w) = by-told parts w (told row parts)
           by-end (stops {n = n} {p = p} x) =
               let y : StopsReading (formatIn call) (kindsIn call) n p = rw (same-format, same-kinds) x in
-              caused (K.reading begun y)
+              caused (K.earlier-stop (K.reading begun y))
 
 judged-measuring : (s row : List ℕ) → Judged (measuring s row)
 judged-measuring s row =
@@ -114,7 +116,7 @@ judged-measuring s row =
     (λ h f k parts w x _. accepted (ap ofOutcome (accepted-measured s row h f k w x)))
 
 judged-printing : (s row : List ℕ) (room slots : ℕ) → Judged (printing s row room slots)
-unfolding printed
+unfolding printed printedText
 judged-printing s row room slots =
     by-row (printing s row room slots) s row printed-row refl refl (λ n b. printed-bad n b .0) go
   where
@@ -122,11 +124,11 @@ judged-printing s row room slots =
         → Begins (printing s row room slots) → Judged (printing s row room slots)
     go h f k parts w x b =
         elim (decLt room n) [
-          | yes l ↦ caused (K.no-room b w x (K.longer-than-output l))
+          | yes l ↦ caused (K.no-room b w x (part-texts s row k w) (K.longer-than-output l))
           | no l ↦ elim (decLt largestEnd n) [
-            | yes m ↦ caused (K.no-room b w x (K.longer-than-ends-hold m))
+            | yes m ↦ caused (K.no-room b w x (part-texts s row k w) (K.longer-than-ends-hold m))
             | no m ↦ elim (decLt slots (length parts)) [
-              | yes o ↦ caused (K.no-room b w x (K.more-pieces o))
+              | yes o ↦ caused (K.no-room b w x (part-texts s row k w) (K.more-pieces o))
               | no o ↦
                   let fits : ifRoom room slots (Accepted n (length parts)) ≡ Accepted n (length parts) =
                   simp (le-leb n room (omega arith), le-leb n largestEnd (omega arith), le-leb (length parts) slots (omega arith)) in
@@ -185,22 +187,27 @@ pub checked-parts : {s ks : List ℕ} {parts : List Part} → Begins (checking s
 checked-parts {s} {ks} b w = checked-whole (b .short) (b .formed) (kinds-good s ks (b .input)) w
 
 -- a row is measured, and printed where it has room, with the length of its text and as many pieces.
-pub measured-parts : {s row : List ℕ} {parts : List Part} → Begins (measuring s row) → Whole s (kindsOf row) parts → AllPrinted row parts
-    → measured s row ≡ Accepted (length (printedText s row)) (length parts)
-measured-parts {s} {row} b w x = accepted-measured s row (b .short) (b .formed) (row-good measured-row (b .input)) w x
+pub measured-parts : {s row : List ℕ} {parts : List Part} {ts : List (List ℕ)} → Begins (measuring s row) → Whole s (kindsOf row) parts → AllPrinted row parts
+    → PartTexts row parts ts → measured s row ≡ Accepted (length (joined ts)) (length parts)
+measured-parts {s} {row} {parts} b w x of =
+    let kept = row-good measured-row (b .input) in
+    accepted-measured s row (b .short) (b .formed) kept w x
+    ∙ ap (λ (t : List ℕ). Accepted (length t) (length parts)) (sym (text-is s row (b .short) (b .formed) kept w of))
 
 pub printed-parts : {s row : List ℕ} (room slots : ℕ) {parts : List Part} → Begins (printing s row room slots) → Whole s (kindsOf row) parts
-    → AllPrinted row parts → (NoRoom s row room slots (length parts) → ⊥)
-    → printed s row room slots ≡ Accepted (length (printedText s row)) (length parts)
+    → AllPrinted row parts → {ts : List (List ℕ)} → PartTexts row parts ts → (NoRoom (length (joined ts)) room slots (length parts) → ⊥)
+    → printed s row room slots ≡ Accepted (length (joined ts)) (length parts)
 unfolding printed
-printed-parts {s} {row} room slots {parts} b w x h =
-    ap (ifRoom room slots) (accepted-measured s row (b .short) (b .formed) (row-good printed-row (b .input)) w x)
+printed-parts {s} {row} room slots {parts} b w x {ts} of h =
+    let kept = row-good printed-row (b .input) in
+    ap (ifRoom room slots) (accepted-measured s row (b .short) (b .formed) kept w x
+    ∙ ap (λ (t : List ℕ). Accepted (length t) (length parts)) (sym (text-is s row (b .short) (b .formed) kept w of)))
     ∙ simp (within room K.longer-than-output, within largestEnd K.longer-than-ends-hold, few)
   where
     n : ℕ
-    n = length (printedText s row)
+    n = length (joined ts)
 
-    within : (most : ℕ) → (most < n → NoRoom s row room slots (length parts)) → leb n most ≡ true
+    within : (most : ℕ) → (most < n → NoRoom n room slots (length parts)) → leb n most ≡ true
     within most f = elim (decLt most n) [ yes l ↦ absurd (h (f l)) | no l ↦ le-leb n most (omega arith) ]
 
     few : leb (length parts) slots ≡ true
@@ -240,12 +247,12 @@ input-number (K.no-kind k h n) = (omega arith, omega arith)
 input-number (K.broken-row of h) = (omega arith, omega arith)
 
 cause-number : {call : Call} {n p : ℕ} → Cause call n p → (1 ≤ n) × (n ≤ 18)
-cause-number (K.long h) = (omega arith, omega arith)
-cause-number (K.malformed h f) = (omega arith, omega arith)
-cause-number (K.input h f b) = input-number b
-cause-number (K.reading b x) = stop-number x
-cause-number (K.unprinted b of w x) = unprinted-number x
-cause-number (K.no-room b w x y) = (omega arith, omega arith)
+cause-number (K.earlier-stop (K.long h)) = (omega arith, omega arith)
+cause-number (K.earlier-stop (K.malformed h f)) = (omega arith, omega arith)
+cause-number (K.earlier-stop (K.input h f b)) = input-number b
+cause-number (K.earlier-stop (K.reading b x)) = stop-number x
+cause-number (K.earlier-stop (K.unprinted b of w x)) = unprinted-number x
+cause-number (K.no-room b w x of y) = (omega arith, omega arith)
 
 pub number-in-table : (call : Call) (n p : ℕ) → refusal call ≡ some (record { number = n; place = p }) → (1 ≤ n) × (n ≤ 18)
 number-in-table call n p e = cause-number (cause-of call n p e)

@@ -1,5 +1,5 @@
 -- A call is refused where a cause holds, with the cause's number and place. Assumes nothing.
-use mathlib.Core.Path.{_≡_, refl, sym, ap, _∙_}
+use mathlib.Core.Path.{_≡_, refl, sym, ap, _∙_, subst}
 use mathlib.Core.Bool.{Bool, true, false, _&&_}
 use mathlib.Core.List.{List, [], _∷_}
 use mathlib.Core.Option.{Option, none, some}
@@ -25,7 +25,10 @@ use Rattle.grammar.proofs.Listed.{lists-length}
 use Rattle.grammar.proofs.Readings.{Read, read-whole, stopped-by}
 use Rattle.rows.specs.Row.{countOf, kindsOf, isRow}
 use Rattle.rows.proofs.Rows.{kinds-length, kind-byte}
-use Rattle.outcomes.specs.Printed.{printedText, Stop, firstStop, unlessStopped, measuredEnd, measured, ifRoom, printed}
+use Rattle.outcomes.specs.Printed.{printedText, Stop, firstStop, unlessStopped, measuredEnd, measured, ifRoom, printed, joined}
+use Rattle.outcomes.specs.PartTexts.{PartTexts}
+use Rattle.outcomes.proofs.PartTexts.{part-texts}
+use Rattle.outcomes.proofs.Unique.{same-texts}
 use Rattle.outcomes.specs.declared.Outcome.the-variants.{Accepted, Refused}
 use Rattle.outcomes.proofs.Letters.{row-kinds}
 use Rattle.causes.specs.Calls.{Call, checking, measuring, printing, measured-row, printed-row, Refusal, ofChecked, ofOutcome, refusal}
@@ -119,9 +122,16 @@ module _ (s row : List ℕ) (short : length s ≤ mostFormat) (formed : wellForm
     pub accepted-measured : AllPrinted row parts → measured s row ≡ Accepted (length (printedText s row)) (length parts)
     accepted-measured x = whole-measured none (none-stops s row (whole-read .lists) (have-kinds (w .reads)) x)
 
-    no-room-printed : {room slots : ℕ} → AllPrinted row parts → NoRoom s row room slots (length parts) → printed s row room slots ≡ Refused 17 0
+    -- the text is those of the parts, joined
+    pub text-is : {ts : List (List ℕ)} → PartTexts row parts ts → joined ts ≡ printedText s row
+    unfolding printedText
+    text-is x = ap joined (same-texts row x (part-texts s row kept w))
+
+    no-room-printed : {room slots : ℕ} {ts : List (List ℕ)} → AllPrinted row parts → PartTexts row parts ts
+        → NoRoom (length (joined ts)) room slots (length parts) → printed s row room slots ≡ Refused 17 0
     unfolding printed
-    no-room-printed {room} {slots} x y = ap (ifRoom room slots) (accepted-measured x) ∙ without y
+    no-room-printed {room} {slots} x of y =
+        ap (ifRoom room slots) (accepted-measured x) ∙ without (subst (λ (t : List ℕ). NoRoom (length t) room slots (length parts)) (text-is of) y)
       where
         n : ℕ
         n = length (printedText s row)
@@ -130,7 +140,7 @@ module _ (s row : List ℕ) (short : length s ≤ mostFormat) (formed : wellForm
         false-last true = refl
         false-last false = refl
 
-        without : NoRoom s row room slots (length parts) → ifRoom room slots (Accepted n (length parts)) ≡ Refused 17 0
+        without : NoRoom n room slots (length parts) → ifRoom room slots (Accepted n (length parts)) ≡ Refused 17 0
         without (longer-than-output h) = simp (lt-leb n room h)
         without (longer-than-ends-hold h) = simp (lt-leb n largestEnd h, false-last (leb n room))
         without (more-pieces h) = simp (lt-leb (length parts) slots h, false-last (leb n room && leb n largestEnd))
@@ -140,32 +150,32 @@ refusedWith n p = some (record { number = n; place = p })
 
 -- Of every call.
 pub refuses : (call : Call) {n p : ℕ} → Cause call n p → refusal call ≡ some (record { number = n; place = p })
-refuses (checking s ks) (K.long h) = ap ofChecked (long-checked s ks h)
-refuses (checking s ks) (K.malformed h f) = ap ofChecked (malformed-checked s ks h f)
-refuses (checking s ks) (K.input {number = number} h f b) =
+refuses (checking s ks) (K.earlier-stop (K.long h)) = ap ofChecked (long-checked s ks h)
+refuses (checking s ks) (K.earlier-stop (K.malformed h f)) = ap ofChecked (malformed-checked s ks h f)
+refuses (checking s ks) (K.earlier-stop (K.input {number = number} h f b)) =
     let x = kinds-bad s ks number b in
     ap ofChecked (kinds-checked s ks h f (x .0)) ∙ ap (λ (n : ℕ). refusedWith n 0) (sym (x .1))
-refuses (checking s ks) (K.reading b x) =
+refuses (checking s ks) (K.earlier-stop (K.reading b x)) =
     let k = kinds-good s ks (b .input) in
     let known = checked-kinds ks (both (leb (length ks) mostKinds) (allKnown ks) k .1) in
     ap ofChecked
     (read-checked s ks (b .short) (b .formed) k ∙ ap (λ (e : Ended). checkedEnd e (placed s ks)) (stopped-by s ks known x))
-refuses (measuring s row) (K.long h) = ap ofOutcome (long-measured s row h)
-refuses (measuring s row) (K.malformed h f) = ap ofOutcome (malformed-measured s row h f)
-refuses (measuring s row) (K.input {number = number} h f b) =
+refuses (measuring s row) (K.earlier-stop (K.long h)) = ap ofOutcome (long-measured s row h)
+refuses (measuring s row) (K.earlier-stop (K.malformed h f)) = ap ofOutcome (malformed-measured s row h f)
+refuses (measuring s row) (K.earlier-stop (K.input {number = number} h f b)) =
     let x = measured-bad number b in
     ap ofOutcome (broken-measured s row h f (x .0)) ∙ ap (λ (n : ℕ). refusedWith n 0) (sym (x .1))
-refuses (measuring s row) (K.reading b x) = ap ofOutcome (stopped-measured s row (b .short) (b .formed) (row-good measured-row (b .input)) x)
-refuses (measuring s row) (K.unprinted b measured-row w x) =
+refuses (measuring s row) (K.earlier-stop (K.reading b x)) = ap ofOutcome (stopped-measured s row (b .short) (b .formed) (row-good measured-row (b .input)) x)
+refuses (measuring s row) (K.earlier-stop (K.unprinted b measured-row w x)) =
     ap ofOutcome (unprinted-measured s row (b .short) (b .formed) (row-good measured-row (b .input)) w x)
-refuses (printing s row room slots) (K.long h) = ap ofOutcome (refused-printed s row room slots (long-measured s row h))
-refuses (printing s row room slots) (K.malformed h f) = ap ofOutcome (refused-printed s row room slots (malformed-measured s row h f))
-refuses (printing s row room slots) (K.input {number = number} h f b) =
+refuses (printing s row room slots) (K.earlier-stop (K.long h)) = ap ofOutcome (refused-printed s row room slots (long-measured s row h))
+refuses (printing s row room slots) (K.earlier-stop (K.malformed h f)) = ap ofOutcome (refused-printed s row room slots (malformed-measured s row h f))
+refuses (printing s row room slots) (K.earlier-stop (K.input {number = number} h f b)) =
     let x = printed-bad number b in
     ap ofOutcome (refused-printed s row room slots (broken-measured s row h f (x .0))) ∙ ap (λ (n : ℕ). refusedWith n 0) (sym (x .1))
-refuses (printing s row room slots) (K.reading b x) =
+refuses (printing s row room slots) (K.earlier-stop (K.reading b x)) =
     ap ofOutcome (refused-printed s row room slots (stopped-measured s row (b .short) (b .formed) (row-good printed-row (b .input)) x))
-refuses (printing s row room slots) (K.unprinted b printed-row w x) =
+refuses (printing s row room slots) (K.earlier-stop (K.unprinted b printed-row w x)) =
     ap ofOutcome (refused-printed s row room slots (unprinted-measured s row (b .short) (b .formed) (row-good printed-row (b .input)) w x))
-refuses (printing s row room slots) (K.no-room b w x y) =
-    ap ofOutcome (no-room-printed s row (b .short) (b .formed) (row-good printed-row (b .input)) w x y)
+refuses (printing s row room slots) (K.no-room b w x of y) =
+    ap ofOutcome (no-room-printed s row (b .short) (b .formed) (row-good printed-row (b .input)) w x of y)

@@ -17,7 +17,8 @@ use Rattle.grammar.specs.Readings.{Whole, StopsReading}
 use Rattle.kinds.specs.Kinds.{unmarked}
 use Rattle.rows.specs.Entry.{integerIn}
 use Rattle.rows.specs.Row.{kindByteOf, entryAt, isRow}
-use Rattle.outcomes.specs.Printed.{printedText}
+use Rattle.outcomes.specs.Printed.{joined}
+use Rattle.outcomes.specs.PartTexts.{PartTexts}
 use Rattle.causes.specs.Calls.{Call, checking, printing, formatIn, kindsIn, OfRow}
 
 -- "over 64 kinds, or a kind not 1 to 7 (checking)", with 02, E1, not 1 to 8; "row breaks its layout"
@@ -81,26 +82,31 @@ pub data FirstUnprinted (row : List ℕ) : List Part → ℕ → ℕ → Type 0 
       → FirstUnprinted row (element w ∷ before) number (length (bytesBefore before))
   earlier : {p : Part} {before : List Part} {number place : ℕ} → FirstUnprinted row before number place → FirstUnprinted row (p ∷ before) number place
 
--- "text longer than output or than 4,294,967,295, or more pieces than ends"
-pub data NoRoom (s row : List ℕ) (room slots pieces : ℕ) : Type 0 where
-  longer-than-output : room < length (printedText s row) → NoRoom s row room slots pieces
-  longer-than-ends-hold : largestEnd < length (printedText s row) → NoRoom s row room slots pieces
-  more-pieces : slots < pieces → NoRoom s row room slots pieces
+-- What stops a call before its room is asked for, with its number and place.
+pub data StopsBefore : Call → ℕ → ℕ → Type 0 where
+  -- "format over 4,096 bytes"
+  long : {call : Call} → mostFormat < length (formatIn call) → StopsBefore call 1 0
+  -- "format not UTF-8"
+  malformed : {call : Call} → length (formatIn call) ≤ mostFormat → wellFormed (formatIn call) ≡ false → StopsBefore call 2 0
+  -- 3 and 14
+  input : {call : Call} {number : ℕ} → length (formatIn call) ≤ mostFormat → wellFormed (formatIn call) ≡ true → BadInput call number
+      → StopsBefore call number 0
+  -- 4 to 13
+  reading : {call : Call} {number place : ℕ} → Begins call → StopsReading (formatIn call) (kindsIn call) number place → StopsBefore call number place
+  -- 15, 16 and 18
+  unprinted : {call : Call} {row : List ℕ} {parts : List Part} {number place : ℕ} → Begins call → OfRow call row → Whole (formatIn call) (kindsIn call) parts
+      → FirstUnprinted row parts number place → StopsBefore call number place
+
+-- "text longer than output or than 4,294,967,295, or more pieces than ends", of n bytes of text and so many pieces.
+pub data NoRoom (n room slots pieces : ℕ) : Type 0 where
+  longer-than-output : room < n → NoRoom n room slots pieces
+  longer-than-ends-hold : largestEnd < n → NoRoom n room slots pieces
+  more-pieces : slots < pieces → NoRoom n room slots pieces
 
 -- The cause of a refusal, with its number and place.
 pub data Cause : Call → ℕ → ℕ → Type 0 where
-  -- "format over 4,096 bytes"
-  long : {call : Call} → mostFormat < length (formatIn call) → Cause call 1 0
-  -- "format not UTF-8"
-  malformed : {call : Call} → length (formatIn call) ≤ mostFormat → wellFormed (formatIn call) ≡ false → Cause call 2 0
-  -- 3 and 14
-  input : {call : Call} {number : ℕ} → length (formatIn call) ≤ mostFormat → wellFormed (formatIn call) ≡ true → BadInput call number → Cause call number 0
-  -- 4 to 13
-  reading : {call : Call} {number place : ℕ} → Begins call → StopsReading (formatIn call) (kindsIn call) number place → Cause call number place
-  -- 15, 16 and 18
-  unprinted : {call : Call} {row : List ℕ} {parts : List Part} {number place : ℕ} → Begins call → OfRow call row → Whole (formatIn call) (kindsIn call) parts
-      → FirstUnprinted row parts number place → Cause call number place
-  -- 17
-  no-room : {s row : List ℕ} {room slots : ℕ} {parts : List Part} → Begins (printing s row room slots)
-      → Whole s (kindsIn (printing s row room slots)) parts → AllPrinted row parts → NoRoom s row room slots (length parts)
-      → Cause (printing s row room slots) 17 0
+  earlier-stop : {call : Call} {number place : ℕ} → StopsBefore call number place → Cause call number place
+  -- 17, of the texts of the format's parts
+  no-room : {s row : List ℕ} {room slots : ℕ} {parts : List Part} {ts : List (List ℕ)} → Begins (printing s row room slots)
+      → Whole s (kindsIn (printing s row room slots)) parts → AllPrinted row parts → PartTexts row parts ts
+      → NoRoom (length (joined ts)) room slots (length parts) → Cause (printing s row room slots) 17 0

@@ -1,3 +1,4 @@
 mod Shown
 mod Numbers
 pub mod Symbols
+pub mod Patterns

@@ -7,9 +7,7 @@ use Prim.Native.Char.{code}
 use native.Mathlib.Omega.{arith}
 use lib.ListN.{length, getD, length-append}
 use lib.Seq.{getD-at}
-use Rattle.writing.specs.Text.{ascii, has}
-use Rattle.numerals.specs.declared.Radix.the-variants.{Decimal, Octal, Hexadecimal}
-use Rattle.kinds.specs.Letters.{smallOf, capitalOf}
+use Rattle.writing.specs.Text.{has}
 use Rattle.kinds.specs.Kinds.{unmarked, isKnown}
 use Rattle.kinds.specs.declared.letters.ConversionType.{ConversionType}
 use Rattle.kinds.specs.declared.letters.ConversionType.the-variants as C
@@ -32,11 +30,9 @@ use Rattle.grammar.proofs.Steps.{KindsKnown}
 use Rattle.rows.specs.Entry.{isEntry}
 use Rattle.rows.specs.Row.{countOf, kindsOf, kindByteOf, textArea, entryAt, isRow}
 use Rattle.rows.proofs.Rows.{kinds-length, kind-byte, entry}
-use Rattle.columns.proofs.Letters.{NamedBy, among}
+use Rattle.columns.proofs.Letters.{NamedBy}
 use Rattle.outcomes.specs.Demand.{isTime}
-
-never : false ≡ true → ⊥
-never e = let z : _≡_ {A = ℕ} 0 1 = cc in omega arith
+use Rattle.outcomes.proofs.Unique.{never, letter-names}
 
 -- every entry of a row has a kind
 entry-known : (text : List ℕ) (k : Kind) (null : Bool) (v : ℕ) → isEntry text (record { kind = k; null = null; value = v }) ≡ true → isKnown k ≡ true
@@ -56,34 +52,6 @@ row-kinds row kept a h i =
     let x = entryAt row a in
     let q = entry-known (textArea row) (x .kind) (x .null) (x .value) (entry row kept a h few) in
     ap (λ (k : ℕ). has kinds (unmarked k)) (kind-byte row a h few) ∙ known-kind (unmarked (kindByteOf row a)) q
-
--- What holds of each byte of a text, one by one.
-abbrev All : (ℕ → Type 0) → List ℕ → Type 0
-All P [] = Unit {0}
-All P (b ∷ bs) = P b × All P bs
-
-all-of : (P : ℕ → Type 0) (l : List ℕ) → All P l → (b : ℕ) → has l b ≡ true → P b
-unfolding has
-all-of P [] a b h = absurd (never h)
-all-of P (x ∷ l) a b h = among P x l b (λ q. subst P q (a .0)) (all-of P l (a .1) b) h
-
--- A letter of a conversion, but for t and T, names it, and is no t or T.
-abbrev Names : ConversionType → ℕ → Type 0
-Names c b = NamedBy b c (has capitals b) × (has (ascii "tT") b ≡ false)
-
-letter-names : (c : ConversionType) → isTime c ≡ false → (b : ℕ) → has (lettersOf c) b ≡ true → Names c b
-unfolding smallOf capitalOf has
-letter-names C.Boolean n = all-of (Names C.Boolean) (ascii "bB") ((refl, refl), ((refl, refl), tt))
-letter-names C.HexHash n = all-of (Names C.HexHash) (ascii "hH") ((refl, refl), ((refl, refl), tt))
-letter-names C.String n = all-of (Names C.String) (ascii "sS") ((refl, refl), ((refl, refl), tt))
-letter-names C.Char n = all-of (Names C.Char) (ascii "cC") ((refl, refl), ((refl, refl), tt))
-letter-names (C.Integer Decimal) n = all-of (Names (C.Integer Decimal)) (ascii "d") ((refl, refl), tt)
-letter-names (C.Integer Octal) n = all-of (Names (C.Integer Octal)) (ascii "o") ((refl, refl), tt)
-letter-names (C.Integer Hexadecimal) n = all-of (Names (C.Integer Hexadecimal)) (ascii "xX") ((refl, refl), ((refl, refl), tt))
-letter-names C.DecimalFloat n =
-    all-of (Names C.DecimalFloat) (ascii "eEfgG") ((refl, refl), ((refl, refl), ((refl, refl), ((refl, refl), ((refl, refl), tt)))))
-letter-names C.HexFloat n = all-of (Names C.HexFloat) (ascii "aA") ((refl, refl), ((refl, refl), tt))
-letter-names (C.Time t) n = absurd (never (sym n))
 
 -- that the letter x is one byte b, by which the conversion is named
 record Single (c : ConversionType) (u : Bool) (x : List ℕ) : Type 0 where

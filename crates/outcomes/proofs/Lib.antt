@@ -1,3 +1,4 @@
+pub mod Unique
 pub mod Joined
 pub mod Texts
 pub mod Accepted
