@@ -7,11 +7,13 @@ use native.Mathlib.Decide.{decLt}
 use native.Mathlib.Omega.{arith}
 use lib.Dec.{eqb}
 use lib.ListN.{length}
-use borrow.Author.Tests.{eqb-true}
+use borrow.Author.Tests.{eqb-true, lt-leb}
 use Rattle.refusals.specs.Limits.{mostGates}
 use Rattle.writing.specs.Choose.{choose}
 use Rattle.writing.proofs.Choose.{by-test}
-use Rattle.gates.specs.Gates.{Gate, isPresent, without, Change, joins, leaves, answer, changed, after, presentAfter}
+use Rattle.outcomes.specs.Printed.{measured}
+use Rattle.outcomes.specs.declared.Outcome.the-variants.{Accepted}
+use Rattle.gates.specs.Gates.{Gate, isPresent, without, Change, joins, leaves, done, answer, changed, after, presentAfter}
 use Rattle.gates.specs.Causes.{ListCause}
 use Rattle.gates.specs.Causes as K
 use Rattle.gates.specs.declared.Changed.{Changed}
@@ -79,11 +81,11 @@ module _ (s : List ℕ) where
 
   after-call : (gates : List Gate) (c : Change) → Kept gates → Kept (after s gates c)
   unfolding after
-  after-call gates c k = by-test Kept (eqb (answer s gates c .number) 0) _ _ (λ e. done c (eqb-true (answer s gates c .number) 0 e)) (λ _. k)
+  after-call gates c k = by-test Kept (eqb (answer s gates c .number) 0) _ _ (λ e. by-call c (eqb-true (answer s gates c .number) 0 e)) (λ _. k)
     where
-      done : (c : Change) → answer s gates c .number ≡ 0 → Kept (changed gates c)
-      done (joins n row) e = let r = had-room gates n row e in record { few = omega (arith, r .1); apart = (r .0, k .apart) }
-      done (leaves n) e = record { few = omega (arith, no-more n gates, k .few); apart = apart-without n gates (k .apart) }
+      by-call : (c : Change) → answer s gates c .number ≡ 0 → Kept (changed gates c)
+      by-call (joins n row) e = let r = had-room gates n row e in record { few = omega (arith, r .1); apart = (r .0, k .apart) }
+      by-call (leaves n) e = record { few = omega (arith, no-more n gates, k .few); apart = apart-without n gates (k .apart) }
 
   pub kept : (calls : List Change) → Kept (presentAfter s calls)
   unfolding presentAfter
@@ -95,3 +97,12 @@ module _ (s : List ℕ) where
       → length (presentAfter s (leaves n ∷ calls)) + 1 ≡ length (presentAfter s calls)
   unfolding presentAfter after answer
   place-freed calls n h = simp h (one-less n (presentAfter s calls) (kept calls .apart) h)
+
+  -- So a later join of a gate that is absent is done, where measuring accepts its row.
+  pub place-usable : (calls : List Change) (n j : ℕ) (row : List ℕ) (bytes pieces : ℕ) → isPresent n (presentAfter s calls) ≡ true
+      → isPresent j (presentAfter s (leaves n ∷ calls)) ≡ false → measured s row ≡ Accepted bytes pieces
+      → answer s (presentAfter s (leaves n ∷ calls)) (joins j row) ≡ done
+  unfolding answer
+  place-usable calls n j row bytes pieces h absent e =
+      let few : length (presentAfter s (leaves n ∷ calls)) < mostGates = omega (arith, place-freed calls n h, kept calls .few) in
+      simp (absent, lt-leb mostGates (length (presentAfter s (leaves n ∷ calls))) few, e)
