@@ -12,7 +12,6 @@ use Rattle.writing.specs.Text.{ascii, has}
 use Rattle.writing.proofs.Choose.{both}
 use Rattle.kinds.specs.Letters.{lookup, timeLetters, timeOf}
 use Rattle.kinds.specs.declared.letters.TimeFormat.{TimeFormat}
-use Rattle.kinds.specs.declared.letters.TimeLetter.{TimeLetter}
 use Rattle.kinds.specs.declared.letters.TimeLetter.the-variants.{Component, NoComponent}
 use Rattle.dates.specs.Components.{patternOf}
 

@@ -1,13 +1,12 @@
 -- What a piece's text and size are, by the piece. Assumes nothing.
 use Prim.Native.Nat.{ℕ, _^_, _≤_, _<_}
 use mathlib.Core.Path.{_≡_, refl, sym, ap, subst, _∙_}
-use mathlib.Core.Bool.{true, false, true≢false}
-use mathlib.Core.List.{List, []}
+use mathlib.Core.Bool.{Bool, true, false, true≢false}
+use mathlib.Core.List.{List}
 use mathlib.Core.Option.{Option, none, some}
 use native.Mathlib.Omega.{arith}
 use lib.ListN.{length}
 use Rattle.writing.specs.Writers.{Put}
-use Rattle.writing.specs.Choose.{choose}
 use Rattle.kinds.specs.Kinds.{kindIn, fitOf}
 use Rattle.kinds.specs.declared.letters.ConversionType.{ConversionType}
 use Rattle.kinds.specs.declared.Kind.{Kind}
@@ -21,12 +20,11 @@ use Rattle.parsing.specs.declared.Piece.the-variants.{Element as AnElement}
 use Rattle.rows.specs.Row.{countOf, kindsOf, entryAt, isRow}
 use Rattle.parsing.specs.Covers.{PieceIn}
 use Rattle.rows.proofs.Rows.{kinds-length, kind-byte}
-use Rattle.rows.specs.declared.entries.Entry.{Entry}
-use Rattle.elements.specs.Texts.{Shown, Text, Stops, valueText, textOf, stopOf}
+use Rattle.elements.specs.Texts.{Shown, Text, Stops, textOf, stopOf}
 use Rattle.elements.specs.Sizes.{Sized, sizeOf}
 use Rattle.elements.specs.declared.Size.{Size}
 use Rattle.elements.specs.declared.Size.the-variants as S
-use Rattle.elements.specs.Ready.{Suited, isText}
+use Rattle.elements.specs.Ready.{Suited}
 
 -- the size by what stops a text and by its length
 abbrev pub sized : Option ℕ → ℕ → Size
@@ -60,20 +58,16 @@ found-suited s row e kept i =
     }
 
 -- Text is the form of texts alone.
-pub text-kind : (c : ConversionType) (k : Kind) (f : Form) → fitOf c k ≡ Fits f → isText f ≡ true → k ≡ K.Text
-text-kind c k f q =
-    subst (OfForm (λ f. isText f ≡ true → k ≡ K.Text)) q
-    (form-of (λ k f. isText f ≡ true → k ≡ K.Text) (λ k h. absurd (never h)) (λ f k h. absurd (never h)) (λ h. absurd (never h)) (λ h. absurd (never h))
-    (λ h. refl) (λ x h. absurd (never h)) c k)
-  where
-    never : false ≡ true → ⊥
-    never h = true≢false (sym h)
+abbrev isText : Form → Bool
+isText (F.Integer f k) = false
+isText F.HexFloat = false
+isText F.Boolean = false
+isText F.Text = true
+isText (F.Time x) = false
+isText F.NotPrinted = false
 
--- No other form looks at the text that an entry names.
-pub form-shown : (e : Element) (x : Entry) (t : List ℕ) (f : Form) → valueText e f x (choose (isText f) (λ _. t) (λ _. [])) ≡ valueText e f x t
-form-shown e x t (F.Integer f k) = refl
-form-shown e x t F.HexFloat = refl
-form-shown e x t F.Boolean = refl
-form-shown e x t F.Text = refl
-form-shown e x t (F.Time c) = refl
-form-shown e x t F.NotPrinted = refl
+pub text-kind : (c : ConversionType) (k : Kind) → fitOf c k ≡ Fits F.Text → k ≡ K.Text
+text-kind c k q =
+    subst (OfForm (λ f. f ≡ F.Text → k ≡ K.Text)) q
+    (form-of (λ k f. f ≡ F.Text → k ≡ K.Text) (λ k h. absurd (true≢false (sym (ap isText h)))) (λ f k h. absurd (true≢false (sym (ap isText h)))) (λ h. absurd (true≢false (sym (ap isText h)))) (λ h. absurd (true≢false (sym (ap isText h))))
+    (λ h. refl) (λ x h. absurd (true≢false (sym (ap isText h)))) c k) refl

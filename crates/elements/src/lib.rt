@@ -10,6 +10,7 @@ use kinds::Form;
 use kinds::IntegerForm;
 use kinds::IntegerKind;
 use kinds::letters::TimeFormat;
+use pieces::Source;
 use specifiers::Element;
 ghost use Prim.Native.Nat.{_^_, _<_};
 ghost use lib.ListN.{length};
@@ -18,9 +19,10 @@ ghost use Rattle.numerals.specs.Integers.{intOf, integerOf};
 ghost use Rattle.binary64.specs.Fields.{categoryOf};
 ghost use Rattle.rows.specs.Row.{entryAt};
 ghost use Rattle.fields.specs.Texts.{formatString};
-ghost use Rattle.elements.specs.Texts.{charText, floatText, integerText, timeText, booleanWord, valueText};
+ghost use Rattle.elements.specs.Texts.{charText, floatText, integerText, timeText, booleanWord};
 ghost use Rattle.elements.specs.Sizes.{Sized};
-ghost use Rattle.rows.specs.Arguments.{Argument};
+ghost use Rattle.elements.specs.PieceTexts.{shownEntry};
+ghost use Rattle.elements.specs.Ready.{Suited};
 
 // The length of a text, or the number that stops it.
 pub enum Size {
@@ -111,10 +113,10 @@ fn format_time(out: &mut [u8], component: TimeFormat, value: u64, upper: bool) -
     Size::Bytes(dates::put_component(out, component, value, false) as u64)
 }
 
-// Writes an element where there is room for it; part is its unpadded text, if it is one of the row's.
-fn put_element(out: &mut [u8], row: &[u8], e: Element, part: &[u8]) -> Size
-    requires { ⌜ Argument (now row) (e .argument) × (length (now part) < 2 ^ 32) ⌝ }
-    ensures { λ r. ⌜ Sized (now (out .entry)) (valueText e (e .form) (entryAt (now (row .entry)) (e .argument)) (now (part .entry))) r (now (out .exit)) ⌝ }
+// Writes an element where there is room for it.
+fn put_element<'a>(out: &mut [u8], fmt: &'a [u8], row: &'a [u8], e: Element) -> Size
+    requires { ⌜ Suited (now row) e ⌝ }
+    ensures { λ r. ⌜ Sized (now (out .entry)) (shownEntry (now (row .entry)) e (entryAt (now (row .entry)) (e .argument))) r (now (out .exit)) ⌝ }
 {
     let entry = rows::entry(row, e.argument);
     let value = entry.value;
@@ -131,7 +133,15 @@ fn put_element(out: &mut [u8], row: &[u8], e: Element, part: &[u8]) -> Size
         }
         Form::HexFloat => Size::Bytes(format_hex_float(out, e, value)),
         Form::Boolean => Size::Bytes(format_boolean(out, e, value)),
-        Form::Text => Size::Bytes(fields::put_padded(out, e, Mark::NoMark, part)),
+        Form::Text => {
+            let precision = e.precision;
+            let source = Source::Row {
+                entry: entry,
+                precision: precision,
+            };
+            let text = pieces::unpadded_text(fmt, row, source);
+            Size::Bytes(fields::put_padded(out, e, Mark::NoMark, text))
+        }
         Form::Time(component) => format_time(out, component, value, e.upper),
         Form::NotPrinted => Size::Stops(refusals::NOT_PRINTED),
     }
