@@ -175,7 +175,8 @@ module _ (s row : List ℕ) where
   piece-goes (Q.is-newline e) known h = refl
   piece-goes (Q.is-element {e} {w} is) known h = printed-goes s row e w is known h
 
-  pub none-stops : {ps : List Placed} {parts : List Part} → Lists (kindsOf row) ps parts → Each (HasKind row) parts → AllPrinted row parts → firstStop s row ps ≡ none
+  pub none-stops : {ps : List Placed} {parts : List Part} → Lists (kindsOf row) ps parts → Each (HasKind row) parts → AllPrinted row parts
+      → firstStop s row ps ≡ none
   unfolding firstStop
   none-stops Q.nothing known h = refl
   none-stops (Q.one {ps} {before} {x} {p} l is from to) known h =
@@ -196,5 +197,6 @@ module _ (s row : List ℕ) where
       ∙ ap (λ (t : Option ℕ). stopAt t (x .from) none) (piece-stops is (known .0) u)
       ∙ ap (stopOn n) from
     where
-      piece-stops : {at : ℕ} {y : Piece} {w : Written} {n : ℕ} → PieceIs (kindsOf row) at y (element w) → HasKind row w → Unprinted row w n → pieceStop s row y ≡ some n
+      piece-stops : {at : ℕ} {y : Piece} {w : Written} {n : ℕ} → PieceIs (kindsOf row) at y (element w) → HasKind row w → Unprinted row w n
+          → pieceStop s row y ≡ some n
       piece-stops (Q.is-element {e} {w} is) known u = unprinted-stops s row e w is known _ u

@@ -99,7 +99,8 @@ shows (b ∷ more) c k f h i q =
     let agreed = ap (agreesAs b k) (sym q) ∙ all-has (agrees c b) kinds k (all-has (λ b. all (agrees c b) kinds) (lettersOf c) b (all-agree c) h) i in
     let a = both (same (inTable printedFor b k) (hasForm f))
     (same (has (ascii "cC") b && inTable printedFor b k) (isCharacter f) && same (has (ascii "tT") b && inTable printedFor b k) (isDate f)) agreed in
-    let d = both (same (has (ascii "cC") b && inTable printedFor b k) (isCharacter f)) (same (has (ascii "tT") b && inTable printedFor b k) (isDate f)) (a .1) in
+    let d = both (same (has (ascii "cC") b && inTable printedFor b k) (isCharacter f))
+    (same (has (ascii "tT") b && inTable printedFor b k) (isDate f)) (a .1) in
     record { printed = same-is _ _ (a .0); character = same-is _ _ (d .0); date = same-is _ _ (d .1) }
 
 -- a character that is a scalar value

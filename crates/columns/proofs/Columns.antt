@@ -186,7 +186,8 @@ module _ (e : Element) (x : Entry) (suits : fitOf (e .conversion) (x .kind) ≡ 
       Floating : ℕ → Type 0
       Floating l = Names l → categoryOf (x .value) ≡ Finite → FloatRead (x .value) (e .precision) (readPiece l t)
 
-      floats : (u : Bool) → e .upper ≡ u → e .conversion ≡ C.HexFloat → categoryOf (x .value) ≡ Finite → FloatRead (x .value) (e .precision) (readPiece (floatLetter u) t)
+      floats : (u : Bool) → e .upper ≡ u → e .conversion ≡ C.HexFloat → categoryOf (x .value) ≡ Finite
+          → FloatRead (x .value) (e .precision) (readPiece (floatLetter u) t)
       floats u q c f = rw q at finite c f
 
       float : has (ascii "aA") letter ≡ true → categoryOf (x .value) ≡ Finite → FloatRead (x .value) (e .precision) (readPiece letter t)

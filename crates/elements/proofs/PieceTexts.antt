@@ -66,8 +66,12 @@ isText F.Text = true
 isText (F.Time x) = false
 isText F.NotPrinted = false
 
+never : {f : Form} → f ≡ F.Text → isText f ≡ false → ⊥
+never q n = true≢false (sym (ap isText q) ∙ n)
+
 pub text-kind : (c : ConversionType) (k : Kind) → fitOf c k ≡ Fits F.Text → k ≡ K.Text
 text-kind c k q =
     subst (OfForm (λ f. f ≡ F.Text → k ≡ K.Text)) q
-    (form-of (λ k f. f ≡ F.Text → k ≡ K.Text) (λ k h. absurd (true≢false (sym (ap isText h)))) (λ f k h. absurd (true≢false (sym (ap isText h)))) (λ h. absurd (true≢false (sym (ap isText h)))) (λ h. absurd (true≢false (sym (ap isText h))))
-    (λ h. refl) (λ x h. absurd (true≢false (sym (ap isText h)))) c k) refl
+    (form-of (λ k f. f ≡ F.Text → k ≡ K.Text)
+    (λ k h. absurd (never h refl)) (λ f k h. absurd (never h refl)) (λ h. absurd (never h refl)) (λ h. absurd (never h refl))
+    (λ h. refl) (λ x h. absurd (never h refl)) c k) refl

@@ -47,7 +47,8 @@ module _ (s ks : List ℕ) where
   unfolding placedFrom
   same-placed zero c = refl
   same-placed (suc n) c =
-      ap (λ (t : Step). choose (ltb (c .at) (length s)) (λ _. andRest t c (λ m. placedFrom n (pieceAt s (withoutMarks ks)) (length s) m)) (λ _. [])) (same-step c)
+      ap (λ (t : Step). choose (ltb (c .at) (length s)) (λ _. andRest t c (λ m. placedFrom n (pieceAt s (withoutMarks ks)) (length s) m)) (λ _. []))
+      (same-step c)
       ∙ go (pieceAt s ks c) (λ m. same-placed n m)
     where
       go : (t : Step) → ((m : Cursor) → placedFrom n (pieceAt s (withoutMarks ks)) (length s) m ≡ placedFrom n (pieceAt s ks) (length s) m)

@@ -127,7 +127,8 @@ letter-read (C.Time y) x i n = timed y x i n
 -- and the element.
 pub same-element : {ks : List ℕ} {e f : Element} {w : Written} → ElementIs ks e w → ElementIs ks f w → e ≡ f
 same-element {ks} {e} {f} {w} x y =
-    let l = sym (letter-read (e .conversion) (x .letter) (x .conversion) (x .component)) ∙ letter-read (f .conversion) (y .letter) (y .conversion) (y .component) in
+    let l =
+    sym (letter-read (e .conversion) (x .letter) (x .conversion) (x .component)) ∙ letter-read (f .conversion) (y .letter) (y .conversion) (y .component) in
     let conversion : e .conversion ≡ f .conversion = cc in
     let upper = x .upper ∙ sym (y .upper) in
     let argument = x .argument ∙ sym (y .argument) in

@@ -1,4 +1,4 @@
--- `fields::strings::write_upper` meets its contract. The loop's invariant: the first i bytes are written in capitals, and the rest is as it was. Assumes nothing.
+-- `fields::strings::write_upper` meets its contract. The invariant: the first i bytes are written in capitals, the rest is as it was. Assumes nothing.
 use Prim.Native.Nat.{ℕ, _≤_, _-_}
 use mathlib.Core.Path.{_≡_, refl, sym, ap, _∙_}
 use mathlib.Core.List.{map}

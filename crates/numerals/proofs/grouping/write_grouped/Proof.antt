@@ -1,4 +1,4 @@
--- `numerals::grouping::write_grouped` meets its contract. The loop's invariant: the bytes from place i on are stored, and v with the digits since the last comma
+-- `numerals::grouping::write_grouped` meets its contract. The invariant: the bytes from place i on are stored, and v with the digits since the last comma
 -- gives those before them. Assumes nothing.
 use Prim.Native.Nat.{ℕ, _+_, _/_, _≤_}
 use Prim.Native.Char.{code}

@@ -1,4 +1,4 @@
--- `printing::passes::walk` meets its contract. The loop's invariant: `Laying`, of the pieces so far; its measure is what is left of the format. Assumes nothing.
+-- `printing::passes::walk` meets its contract. The invariant: `Laying`, of the pieces so far; its measure is what is left of the format. Assumes nothing.
 use Prim.Native.Nat.{_-_, _<_, max}
 use mathlib.Core.Path.{_≡_, sym, ap, subst, _∙_}
 use mathlib.Core.Bool.{Bool, true}

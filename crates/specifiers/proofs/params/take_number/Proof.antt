@@ -1,4 +1,4 @@
--- `specifiers::params::take_number` meets its contract. The loop's invariant: the value of the digits read, followed by the digits from i on, is the whole number.
+-- `specifiers::params::take_number` meets its contract. The loop's invariant: the digits read and those from i on make the whole number.
 -- Assumes nothing.
 use Prim.Native.Nat.{_≤_, _-_}
 use lib.ListN.{length}
