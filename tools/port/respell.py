@@ -23,7 +23,8 @@ LAWS = (("crates/causes/proofs/Rows.antt", "all_known"), ("crates/outcomes/proof
 def antt(root: pathlib.Path) -> list[pathlib.Path]:
     """The definitions and laws; a function's own proof has names that Rattle makes."""
     files = sorted(root.glob("crates/*/specs/**/*.antt")) + sorted(root.glob("crates/*/proofs/**/*.antt"))
-    return [file for file in files if file.name not in ("Proof.antt", "Invariants.antt", "Answers.antt") and "out" not in file.parts]
+    made = ("Proof.antt", "Invariants.antt", "Answers.antt")
+    return [file for file in files if (file.name not in made or file.parent.name in ("specs", "proofs")) and "out" not in file.parts]
 
 
 def own(files: list[pathlib.Path]) -> set[str]:

@@ -8,19 +8,19 @@ use lib.Seq.{take_all}
 use borrow.Author.Tests.{le-leb, lt-leb}
 use Rattle.writing.specs.Text.{ascii}
 use Rattle.answers.specs.Lines.{line}
-use Rattle.answers.specs.Answers.{length_of, format_of, row_of, printedAnswer, answerText}
+use Rattle.answers.specs.Answers.{length_of, format_of, row_of, printed_answer, answer_text}
 
 module _ (s : List ℕ) where
-  pub no_length : length s < 2 → answerText s ≡ line (ascii "no input")
-  unfolding answerText
+  pub no_length : length s < 2 → answer_text s ≡ line (ascii "no input")
+  unfolding answer_text
   no_length h = simp (lt-leb 2 (length s) h)
 
-  pub beyond : 2 ≤ length s → length s < 2 + length_of s → answerText s ≡ line (ascii "no input")
-  unfolding answerText
+  pub beyond : 2 ≤ length s → length s < 2 + length_of s → answer_text s ≡ line (ascii "no input")
+  unfolding answer_text
   beyond h k = simp (le-leb 2 (length s) h, lt-leb (2 + length_of s) (length s) k)
 
-  pub within : 2 ≤ length s → 2 + length_of s ≤ length s → answerText s ≡ printedAnswer (format_of s) (row_of s)
-  unfolding answerText
+  pub within : 2 ≤ length s → 2 + length_of s ≤ length s → answer_text s ≡ printed_answer (format_of s) (row_of s)
+  unfolding answer_text
   within h k = simp (le-leb 2 (length s) h, le-leb (2 + length_of s) (length s) k)
 
   -- the parts that are lent to printing, by the length that was read

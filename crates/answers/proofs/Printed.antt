@@ -13,7 +13,7 @@ use Rattle.outcomes.specs.declared.Outcome.TheVariants.{Accepted}
 use Rattle.outcomes.proofs.Joined.{ends_length}
 use Rattle.outcomes.proofs.Texts.{texts-length}
 use Rattle.outcomes.proofs.Accepted.{Fitted, fitted}
-use Rattle.answers.specs.Answers.{room, slots, outcomeText, printedAnswer}
+use Rattle.answers.specs.Answers.{room, slots, outcome_text, printed_answer}
 
 module _ (s row : List ℕ) (n k : ℕ) (q : printed s row room slots ≡ Accepted n k) where
   pub fits : Fitted s row room slots n k
@@ -36,11 +36,11 @@ module _ (s row : List ℕ) (n k : ℕ) (q : printed s row room slots ≡ Accept
   ends_left d ends e = let t = ends_from 0 (texts s row) in ap (take k) e ∙ take_at t (drop (length t) d) k ends_many
 
   pub accepted_answer : (c d out ends : List ℕ) → out ≡ laid c (printed_text s row) → ends ≡ laid d (ends_from 0 (texts s row))
-      → outcomeText (Accepted (length (take n out)) (length (take k ends))) (take n out) (take k ends) ≡ printedAnswer s row
+      → outcome_text (Accepted (length (take n out)) (length (take k ends))) (take n out) (take k ends) ≡ printed_answer s row
   accepted_answer c d out ends e f =
       let t = printed_text s row in
       let u = ends_from 0 (texts s row) in
       let o : Accepted (length t) (length u) ≡ printed s row room slots = cc (text-long, ends_many, q) in
-      ap (λ (x : List ℕ). outcomeText (Accepted (length x) (length (take k ends))) x (take k ends)) (text_left c out e)
-      ∙ ap (λ (x : List ℕ). outcomeText (Accepted (length t) (length x)) t x) (ends_left d ends f)
-      ∙ ap (λ (x : Outcome). outcomeText x t u) o
+      ap (λ (x : List ℕ). outcome_text (Accepted (length x) (length (take k ends))) x (take k ends)) (text_left c out e)
+      ∙ ap (λ (x : List ℕ). outcome_text (Accepted (length t) (length x)) t x) (ends_left d ends f)
+      ∙ ap (λ (x : Outcome). outcome_text x t u) o

@@ -9,8 +9,8 @@ use Rattle.outcomes.specs.declared.Outcome.{Outcome}
 use Rattle.outcomes.specs.declared.Outcome.TheVariants.{Accepted, Refused}
 
 -- "reads up to 65,536 bytes"
-abbrev pub mostInput : ℕ
-mostInput = 65536
+abbrev pub most_input : ℕ
+most_input = 65536
 
 -- "it lends 16,384 output bytes and 512 ends"
 abbrev pub room : ℕ
@@ -31,26 +31,26 @@ abbrev pub row_of : List ℕ → List ℕ
 row_of s = drop (2 + length_of s) s
 
 -- What "A missing length, or one beyond the input" excludes.
-abbrev pub hasFormat : List ℕ → Bool
-hasFormat s = leb 2 (length s) && leb (2 + length_of s) (length s)
+abbrev pub has_format : List ℕ → Bool
+has_format s = leb 2 (length s) && leb (2 + length_of s) (length s)
 
 -- "Fields: length, pieces; the text; one end a line. A refusal is `no`, number, place on one line."
-abbrev pub outcomeText : Outcome → List ℕ → List ℕ → List ℕ
-outcomeText (Accepted n k) text ends = numbers_line (ascii "ok ") n k ++ line text ++ end_lines ends
-outcomeText (Refused number place) text ends = numbers_line (ascii "no ") number place
+abbrev pub outcome_text : Outcome → List ℕ → List ℕ → List ℕ
+outcome_text (Accepted n k) text ends = numbers_line (ascii "ok ") n k ++ line text ++ end_lines ends
+outcome_text (Refused number place) text ends = numbers_line (ascii "no ") number place
 
 -- The answer to a format and a row.
-abbrev pub printedAnswer : List ℕ → List ℕ → List ℕ
-printedAnswer format row = outcomeText (printed format row room slots) (printed_text format row) (ends_from 0 (texts format row))
+abbrev pub printed_answer : List ℕ → List ℕ → List ℕ
+printed_answer format row = outcome_text (printed format row room slots) (printed_text format row) (ends_from 0 (texts format row))
 
 -- "prints only `no input`" where the input has no format.
-unfoldable pub answerText : List ℕ → List ℕ
-answerText s = choose (hasFormat s) (λ _. printedAnswer (format_of s) (row_of s)) (λ _. line (ascii "no input"))
+unfoldable pub answer_text : List ℕ → List ℕ
+answer_text s = choose (has_format s) (λ _. printed_answer (format_of s) (row_of s)) (λ _. line (ascii "no input"))
 
 -- All that is printed for the whole of standard input: only its first 65,536 bytes are looked at.
-unfoldable pub sheetText : List ℕ → List ℕ
-sheetText input = answerText (take mostInput input)
+unfoldable pub sheet_text : List ℕ → List ℕ
+sheet_text input = answer_text (take most_input input)
 
 -- No answer is longer: a text of 16,384 bytes, 512 ends of at most 11 bytes with their line ends, a line of numbers.
-abbrev pub mostAnswer : ℕ
-mostAnswer = 22528
+abbrev pub most_answer : ℕ
+most_answer = 22528

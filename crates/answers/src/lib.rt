@@ -3,14 +3,14 @@ pub mod lines;
 
 ghost use Rattle.std.specs.Prelude.{◌≤◌, length};
 ghost use Rattle.writing.specs.Writers.{Wrote};
-ghost use Rattle.answers.specs.Answers.{room, slots, printedAnswer, answerText, sheetText, mostAnswer};
+ghost use Rattle.answers.specs.Answers.{room, slots, printed_answer, answer_text, sheet_text, most_answer};
 ghost use Rattle.answers.specs.Writers.{WroteAccepted};
 
 use outcomes::Outcome;
 
 // Writes the answer of an accepted call. Answers its length.
 fn write_accepted(out: &mut [u8], text: &[u8], ends: &[u32]) -> usize
-    requires { (mostAnswer ≤ length out.old) × (length text.now ≤ room) × (length ends.now ≤ slots) }
+    requires { (most_answer ≤ length out.old) × (length text.now ≤ room) × (length ends.now ≤ slots) }
     ensures { WroteAccepted out.old text.now ends.now result out.new }
 {
     let i = lines::write_numbers(out, b"ok ", text.len() as u64, ends.len() as u64);
@@ -20,8 +20,8 @@ fn write_accepted(out: &mut [u8], text: &[u8], ends: &[u32]) -> usize
 
 // Prints a row under a format and writes the answer. Answers its length.
 fn write_printed<'a>(out: &mut [u8], fmt: &'a [u8], row: &'a [u8]) -> usize
-    requires { mostAnswer ≤ length out.old }
-    ensures { Wrote out.old (printedAnswer fmt.now row.now) result out.new }
+    requires { most_answer ≤ length out.old }
+    ensures { Wrote out.old (printed_answer fmt.now row.now) result out.new }
 {
     let mut text = [0u8; 16384];
     let mut ends = [0u32; 512];
@@ -37,8 +37,8 @@ fn write_printed<'a>(out: &mut [u8], fmt: &'a [u8], row: &'a [u8]) -> usize
 
 // Writes the answer to an input of a length that is looked at. Answers its length.
 fn write_parts(out: &mut [u8], input: &[u8]) -> usize
-    requires { mostAnswer ≤ length out.old }
-    ensures { Wrote out.old (answerText input.now) result out.new }
+    requires { most_answer ≤ length out.old }
+    ensures { Wrote out.old (answer_text input.now) result out.new }
 {
     if input.len() < 2 {
         return lines::write_line(out, b"no input");
@@ -52,8 +52,8 @@ fn write_parts(out: &mut [u8], input: &[u8]) -> usize
 
 // Writes the whole answer to an input. Answers its length.
 pub fn write_answer(out: &mut [u8], input: &[u8]) -> usize
-    requires { mostAnswer ≤ length out.old }
-    ensures { Wrote out.old (sheetText input.now) result out.new }
+    requires { most_answer ≤ length out.old }
+    ensures { Wrote out.old (sheet_text input.now) result out.new }
 {
     if 65536 < input.len() {
         return write_parts(out, &input[..65536]);

@@ -21,11 +21,11 @@ use Rattle.vectors.specs.Right.{states_outcome}
 use Rattle.vectors.specs.Left.{states_left, InRoom}
 
 -- What a call accepts lies in the slices that it was lent, m bytes and n ends.
-pub in-room : (f r : List ℕ) (o : Outcome) (room slots m n : ℕ) → o ≡ printed f r room slots → room ≡ m → slots ≡ n → InRoom o m n
-in-room f r (Accepted len k) room slots m n e p q =
+pub in_room : (f r : List ℕ) (o : Outcome) (room slots m n : ℕ) → o ≡ printed f r room slots → room ≡ m → slots ≡ n → InRoom o m n
+in_room f r (Accepted len k) room slots m n e p q =
     let t = fitted f r room slots len k (sym e) in
     (omega (arith, t.bytes, p), omega (arith, t.slots_enough, q))
-in-room f r (Refused number place) room slots m n e p q = tt
+in_room f r (Refused number place) room slots m n e p q = tt
 
 -- The first n bytes and k ends are as many.
 pub as_long : (s : List ℕ) (stated : Stated) (out ends : List ℕ) (n k : ℕ) (b : Bool) → n ≤ length out → k ≤ length ends
@@ -46,14 +46,14 @@ unfolding texts
 as_many f r n k a = ends_length 0 (texts f r) ∙ texts-length f r (placed f (kinds_of r)) ∙ sym a.pieces
 
 -- What is left of a call is the text and the ends of the definitions.
-pub left-right : (s : List ℕ) (stated : Stated) (f r d e out ends : List ℕ) (o : Outcome) → o ≡ printed f r 2048 512
+pub left_right : (s : List ℕ) (stated : Stated) (f r d e out ends : List ℕ) (o : Outcome) → o ≡ printed f r 2048 512
     → out ≡ written o d (printed_text f r) → ends ≡ written o e (ends_from 0 (texts f r))
     → states_left s stated out ends o ≡ states_outcome s stated (printed_text f r) (ends_from 0 (texts f r)) (printed f r 2048 512)
-left-right s stated f r d e out ends (Accepted n k) p q w =
+left_right s stated f r d e out ends (Accepted n k) p q w =
     let t = printed_text f r in
     let u = ends_from 0 (texts f r) in
     let a = (fitted f r 2048 512 n k (sym p)).accepts in
     ap (λ (x : List ℕ). states_printed s stated n k x (take k ends)) (ap (take n) q ∙ front d t n (sym a.total))
     ∙ ap (λ (x : List ℕ). states_printed s stated n k t x) (ap (take k) w ∙ front e u k (as_many f r n k a))
     ∙ ap (states_outcome s stated t u) p
-left-right s stated f r d e out ends (Refused number place) p q w = ap (states_outcome s stated (printed_text f r) (ends_from 0 (texts f r))) p
+left_right s stated f r d e out ends (Refused number place) p q w = ap (states_outcome s stated (printed_text f r) (ends_from 0 (texts f r))) p

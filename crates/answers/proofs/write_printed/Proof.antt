@@ -11,7 +11,7 @@ use Rattle.outcomes.specs.Printed.{texts, printed_text, ends_from, printed, writ
 use Rattle.outcomes.specs.declared.Outcome.{Outcome}
 use Rattle.outcomes.specs.declared.Outcome.TheVariants.{Accepted}
 use Rattle.outcomes.proofs.Accepted.{Fitted}
-use Rattle.answers.specs.Answers.{room, slots, outcomeText}
+use Rattle.answers.specs.Answers.{room, slots, outcome_text}
 use Rattle.answers.proofs.Printed.{fits, accepted_answer}
 use borrow.Author.Rules.{rules}
 use Rattle.answers.proofs.write_printed.Statement.{statement}
@@ -129,7 +129,7 @@ returns-2 c =
     let e = sym (answered p) ∙ known.number.given.1 in
     let t = printed_text a.fmt.now a.row.now in
     let u = ends_from 0 (texts a.fmt.now a.row.now) in
-    same-wrote a.out.now (sym (ap (λ (o : Outcome). outcomeText o t u) e)) wrote.write-numbers.ensures.0
+    same-wrote a.out.now (sym (ap (λ (o : Outcome). outcome_text o t u) e)) wrote.write-numbers.ensures.0
 
 pub write-printed-spec : {M : Type 1} → statement M
 write-printed-spec =

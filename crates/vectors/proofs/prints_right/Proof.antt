@@ -3,7 +3,7 @@ use mathlib.Core.Path.{◌∙◌}
 use lib.ListN.{length}
 use Rattle.records.specs.Records.{format_of, values_of}
 use Rattle.vectors.specs.Right.{prints_right}
-use Rattle.vectors.proofs.Answers.{in-room, left-right}
+use Rattle.vectors.proofs.Answers.{in_room, left_right}
 use borrow.Author.Rules.{rules}
 use Rattle.vectors.proofs.prints_right.Statement.{statement}
 use Rattle.vectors.proofs.prints_right.Tie as tie
@@ -50,7 +50,7 @@ is-left-requires c κs = let p = c.before.before.before.before in
     let f = format_of a.args.list.now a.args.rec in
     let r = values_of a.args.list.now a.args.rec in (
       a.requires.text_in,
-      in-room f r p.print.result 2048 512 (length p.print.new.1.1.0) (length p.print.new.1.1.1.0) p.print.ensures.0
+      in_room f r p.print.result 2048 512 (length p.print.new.1.1.0) (length p.print.new.1.1.1.0) p.print.ensures.0
           (search rules) (search rules),
     )
 
@@ -62,7 +62,7 @@ returns c = let p = c.before.before.before.before.before in
     let r = values_of a.list.now a.rec in
     let e = p.print.ensures in
     c.is_left.ensures
-    ∙ left-right a.list.now a.rec.stated f r _ _ p.print.new.1.1.0 p.print.new.1.1.1.0 p.print.result e.0 e.1.0 e.1.1.0
+    ∙ left_right a.list.now a.rec.stated f r _ _ p.print.new.1.1.0 p.print.new.1.1.1.0 p.print.result e.0 e.1.0 e.1.1.0
 
 pub prints-right-spec : {M : Type 1} → statement M
 prints-right-spec =
