@@ -11,7 +11,7 @@ use lib.ListN.{length, get_or}
 use borrow.Author.Tests.{le-leb}
 use Rattle.refusals.specs.Limits.{most_format, most_kinds}
 use Rattle.utf8.specs.Utf8.{well_formed}
-use Rattle.kinds.specs.Kinds.{unmarked, kind_of, is_known, all_known_lem}
+use Rattle.kinds.specs.Kinds.{unmarked, kind_of, is_known, all_known}
 use Rattle.parsing.specs.Check.{checked_end, checked}
 use Rattle.parsing.specs.Listed.{placed, ended}
 use Rattle.parsing.specs.declared.Checked.{Checked}
@@ -27,8 +27,8 @@ use Rattle.outcomes.proofs.Letters.{row-kinds}
 use Rattle.causes.proofs.Inputs.{kind_known}
 use Rattle.causes.proofs.Refused.{long-checked, malformed-checked, read-checked, long-measured, malformed-measured, read-measured}
 
-all_known_lem : (ks : List ℕ) → ((i : ℕ) → i < length ks → is_known (kind_of (unmarked (get_or ks i 0))) ≡ true) → all_known_lem (without_marks ks) ≡ true
-unfolding all_known_lem
+all_known_lem : (ks : List ℕ) → ((i : ℕ) → i < length ks → is_known (kind_of (unmarked (get_or ks i 0))) ≡ true) → all_known (without_marks ks) ≡ true
+unfolding all_known
 all_known_lem [] h = refl
 all_known_lem (k ∷ ks) h = simp (h 0 (omega arith), all_known_lem ks (λ i j. h (suc i) (omega arith)))
 
@@ -36,7 +36,7 @@ module _ (s row : List ℕ) (kept : is_row row ≡ true) where
   abbrev ks : List ℕ
   ks = kinds_of row
 
-  kinds_pass : (leb (length (without_marks ks)) most_kinds && all_known_lem (without_marks ks)) ≡ true
+  kinds_pass : (leb (length (without_marks ks)) most_kinds && all_known (without_marks ks)) ≡ true
   kinds_pass =
       let few : length (without_marks ks) ≤ most_kinds = omega (arith, as_many ks, kinds-length row kept, (row_shape row kept).1) in
       simp (le-leb (length (without_marks ks)) most_kinds few, all_known_lem ks known)

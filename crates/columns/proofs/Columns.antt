@@ -40,7 +40,7 @@ use Rattle.elements.specs.Texts.{Shown, Text, Stops, integer_text, value_text, e
 use Rattle.elements.specs.Ready.{Suited}
 use Rattle.columns.specs.Columns.{FloatRead, ReadsBack}
 use Rattle.columns.proofs.Forms.{numeral_letter, float_letter, NumeralRead, FiniteRead, IntegerRead, ValueRead}
-use Rattle.columns.proofs.Letters.{NamedBy, among, is-decimal, is_octal, is_hex, is_upper_hex, is-float, is-upper-float}
+use Rattle.columns.proofs.Letters.{NamedBy, among, is-decimal, is_octal, is_hex, is-upper_hex, is-float, is-upper-float}
 use Rattle.columns.proofs.Integers.{own_bits, numeral-read}
 use Rattle.columns.proofs.Floats.{float_read}
 
@@ -180,7 +180,7 @@ module _ (e : Element) (x : Entry) (suits : fit_of e.conversion x.kind ≡ Fits 
           among Bitwise (code "x") (ascii "Xo") letter
           (λ q. subst Bitwise q (λ n. hex false (is_hex n).1 (is_hex n).0))
           (among Bitwise (code "X") (ascii "o") letter
-          (λ q. subst Bitwise q (λ n. hex true (is_upper_hex n).1 (is_upper_hex n).0))
+          (λ q. subst Bitwise q (λ n. hex true (is-upper_hex n).1 (is-upper_hex n).0))
           (among Bitwise (code "o") [] letter (λ q. subst Bitwise q (λ n. numeral R.Octal (is_octal n).0)) (λ z. absurd (never z)))) h named
 
       Floating : ℕ → Type 0

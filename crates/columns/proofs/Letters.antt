@@ -43,9 +43,9 @@ module _ {c : ConversionType} {u : Bool} where
   unfolding small_of
   is_hex n = named (code "x") (Integer R.Hexadecimal) false n refl
 
-  pub is_upper_hex : NamedBy (code "X") c u → (c ≡ Integer R.Hexadecimal) × (u ≡ true)
+  pub is-upper_hex : NamedBy (code "X") c u → (c ≡ Integer R.Hexadecimal) × (u ≡ true)
   unfolding small_of capital_of
-  is_upper_hex n = named (code "X") (Integer R.Hexadecimal) true n refl
+  is-upper_hex n = named (code "X") (Integer R.Hexadecimal) true n refl
 
   pub is-float : NamedBy (code "a") c u → (c ≡ HexFloat) × (u ≡ false)
   unfolding small_of

@@ -259,11 +259,11 @@ no_letter-is (b ∷ bs) at h =
     other : (d : ℕ) → has (letters ++ ascii "tT") d ≡ true → eqb b d ≡ false
     other d e = ne_eqb b d (λ q. never (sym h ∙ ap (has (letters ++ ascii "tT")) q ∙ e))
 
-pub no_time_is : (t : ℕ) (rest : List ℕ) (at : ℕ) → has (ascii "tT") t ≡ true → begins (has time_letters) rest ≡ false
+pub no_time-is : (t : ℕ) (rest : List ℕ) (at : ℕ) → has (ascii "tT") t ≡ true → begins (has time_letters) rest ≡ false
     → letter_from (t ∷ rest) at ≡ L.Refused 11
 unfolding time_of keys all has
-no_time_is t [] at h i = second t h [] at
-no_time_is t (b ∷ bs) at h i =
+no_time-is t [] at h i = second t h [] at
+no_time-is t (b ∷ bs) at h i =
     second t h (b ∷ bs) at
     ∙ ap (λ (x : TimeLetter). time_letter (eqb t (code "T")) x at) (no_key code Component NoComponent time_letters timeTable b refl i)
 

@@ -27,7 +27,7 @@ use Rattle.grammar.specs.Elements.{kinds, Names, by_last, by_index, by_count, Be
 use Rattle.grammar.specs.Faults as K
 use Rattle.grammar.specs.Faults.{Fault}
 use Rattle.grammar.specs.Pieces.{IsLast, At, param_read, precision_read}
-use Rattle.grammar.proofs.Letters.{is_fit, is_unfit, SomeLetter, letter-is, no_letter-is, no_time_is}
+use Rattle.grammar.proofs.Letters.{is_fit, is_unfit, SomeLetter, letter-is, no_letter-is, no_time-is}
 use Rattle.grammar.proofs.Places.{drop-behind, index-begins}
 use Rattle.grammar.proofs.Choices.{begins_with_lem, begins-none, same_step, index_large}
 use Rattle.grammar.proofs.Sections.{argument_chosen, Argued, argued, flags_taken_lem, width_taken, PartsRead, parts_taken}
@@ -132,5 +132,5 @@ module _ (s ks : List ℕ) (c : Cursor) (before : List Part) (at : At before c) 
   fault_step known r here number (K.no_time_letter {w} {t} {rest} x i n) =
       let h = parts_taken s ks c before at r here w x in
       refused_step r here x.wide.flagged.named h.width.flags.argued 11
-      (letter_next s ks c before at r here w h ∙ ap (after_letter w.argument (kind_in (get_or ks (w.argument - 1) 0)) _) (no_time_is t rest h.place i n))
+      (letter_next s ks c before at r here w h ∙ ap (after_letter w.argument (kind_in (get_or ks (w.argument - 1) 0)) _) (no_time-is t rest h.place i n))
   fault_step known r here number (K.no_fit x n) = no_fit_step r here known x n

@@ -19,7 +19,7 @@ use Rattle.columns.proofs.Letters.{NamedBy}
 use Rattle.elements.proofs.PieceTexts.{found_suited}
 use Rattle.elements.specs.PieceTexts.{shown_piece, piece_text, piece_stop}
 use Rattle.outcomes.specs.Printed.{texts, joined, printed_text, ends_from}
-use Rattle.outcomes.specs.Demand.{end_before_lem, cut_out, piece_of, is_time, DenotesValue, Demand3}
+use Rattle.outcomes.specs.Demand.{end_before, cut_out, piece_of, is_time, DenotesValue, Demand3}
 use Rattle.outcomes.proofs.Joined.{ends_length, nth_end, nth_text, between}
 use Rattle.parsing.proofs.Cover.{cover}
 use Rattle.parsing.proofs.Sound.{all-inside}
@@ -56,7 +56,7 @@ module _ (s row : List ℕ) (n k : ℕ) (ok : Accepts s row n k) (d e : List ℕ
       zero_plus : (m : ℕ) → 0 + m ≡ m
       zero_plus m = omega arith
 
-  end_before_lem : (i : ℕ) → i ≤ k → end_before_lem (laid e (ends_from 0 (texts s row))) i ≡ length (joined (take i (texts s row)))
+  end_before_lem : (i : ℕ) → i ≤ k → end_before (laid e (ends_from 0 (texts s row))) i ≡ length (joined (take i (texts s row)))
   unfolding joined
   end_before_lem zero h = refl
   end_before_lem (suc i) h = end_of i (omega arith)
@@ -77,13 +77,13 @@ module _ (s row : List ℕ) (n k : ℕ) (ok : Accepts s row n k) (d e : List ℕ
       let j : i < length l = omega (arith, as_many) in
       let a = length (joined (take i l)) in
       let w : length (joined (take (suc i) l)) - a ≡ length (get_or l i []) = omega (arith, between l i j) in
-      ap (λ (b : ℕ). take (b - end_before_lem ends i) (drop (end_before_lem ends i) out)) (end_of i h)
+      ap (λ (b : ℕ). take (b - end_before ends i) (drop (end_before ends i) out)) (end_of i h)
       ∙ ap (λ (b : ℕ). take (length (joined (take (suc i) l)) - b) (drop b out)) (end_before_lem i (omega arith))
       ∙ ap (λ (m : ℕ). take m (drop a out)) w
       ∙ nth_text l i (drop (length (joined l)) d) j
       ∙ nth i h
 
-  last_end : n ≡ end_before_lem (laid e (ends_from 0 (texts s row))) k
+  last_end : n ≡ end_before (laid e (ends_from 0 (texts s row))) k
   unfolding printed_text
   last_end =
       let l = texts s row in

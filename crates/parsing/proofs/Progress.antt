@@ -61,9 +61,9 @@ module _ (s ks : List ℕ) (c : Cursor) where
   two_in : (b : ℕ) → begins_with b (drop (c.at + 1) s) ≡ true → Advanced (length s) c (passed c (c.at + 2))
   two_in b e = let i = begins-inside s (c.at + 1) b e in record { forward = omega arith; inside = omega arith }
 
-  text_piece_in : c.at < length s → begins_with (code "%") (drop c.at s) ≡ false
+  text-piece_in : c.at < length s → begins_with (code "%") (drop c.at s) ≡ false
       → Advanced (length s) c (passed c (c.at + text_length (drop c.at s)))
-  text_piece_in h e =
+  text-piece_in h e =
       let n = length-drop c.at s in
       let some = text_some (drop c.at s) (omega arith) e in
       let fits = text_in (drop c.at s) in
@@ -76,7 +76,7 @@ module _ (s ks : List ℕ) (c : Cursor) where
       (λ _. by_test (StepIn (length s) c) (begins_with (code "%") (drop (c.at + 1) s)) _ _ (λ e. two_in (code "%") e)
       (λ _. by_test (StepIn (length s) c) (begins_with (code "n") (drop (c.at + 1) s)) _ _ (λ e. two_in (code "n") e)
       (λ _. element_in (argument_at s (length ks) c) (argument_in_lem s (length ks) c))))
-      (λ e. text_piece_in h e)
+      (λ e. text-piece_in h e)
 
   pub advanced : (p : Piece) (n : Cursor) → c.at < length s → piece_at s ks c ≡ Found p n → Advanced (length s) c n
   advanced p n h e = rw e at (step_in h)

@@ -23,8 +23,8 @@ letter_range d h = elim (dec_lt d 10) [ yes p ↦ simp (lt-ltb d 10 p) (omega ar
     letter k = simp (le-ltb d 10 k) (omega arith, omega arith)
 
 -- so it is none of the bytes outside, as marks, the point, `x` and `p`
-pub letter_is_not : (c d : ℕ) → d < 16 → ((x : ℕ) → code "0" ≤ x → x ≤ code "f" → x ≡ c → ⊥) → eqb (letter_of false d) c ≡ false
-letter_is_not c d h out = let r = letter_range d h in ne_eqb (letter_of false d) c (out (letter_of false d) r.0 r.1)
+pub letter-is_not : (c d : ℕ) → d < 16 → ((x : ℕ) → code "0" ≤ x → x ≤ code "f" → x ≡ c → ⊥) → eqb (letter_of false d) c ≡ false
+letter-is_not c d h out = let r = letter_range d h in ne_eqb (letter_of false d) c (out (letter_of false d) r.0 r.1)
 
 digit_read : (base d : ℕ) → base ≤ 16 → d < base → digit_of base (letter_of false d) ≡ some d
 unfolding digit_of letter_of

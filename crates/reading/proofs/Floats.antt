@@ -27,7 +27,7 @@ use Rattle.hexfloats.specs.Texts.{leading_digit, exponent_text, hex_float_text}
 use Rattle.reading.specs.Kept.{kept}
 use Rattle.reading.specs.Reading.{with_minus, after_prefix, cut_at, Scaled, read_magnitude, read_float}
 use Rattle.reading.proofs.Kept.{kept_append, kept-letters, zero_letters}
-use Rattle.reading.proofs.Digits.{letter_is_not, digits-read, whole_read}
+use Rattle.reading.proofs.Digits.{letter-is_not, digits-read, whole_read}
 use Rattle.reading.proofs.Forms.{whole_of, places_of}
 use Rattle.reading.proofs.Integers.{spaced, kept_spaced, digits_of, unmarked, after_minus, kept-numeral}
 
@@ -51,7 +51,7 @@ cut_letters : (b : ℕ) (ds rest : List ℕ) → ((x : ℕ) → code "0" ≤ x �
     → cut_at b (letters_of false ds ++ (b ∷ rest)) ≡ some (record { front = letters_of false ds; back = rest })
 unfolding cut_at letters_of
 cut_letters b [] rest out same l = simp same
-cut_letters b (d ∷ ds) rest out same l = simp (letter_is_not b d l.0 out, cut_letters b ds rest out same l.1)
+cut_letters b (d ∷ ds) rest out same l = simp (letter-is_not b d l.0 out, cut_letters b ds rest out same l.1)
 
 -- W before the point, F behind it, X behind `p`
 read_parts : (s : Bool) (W F X : List ℕ) (e : ℤ) → Below 16 W → Below 16 F → 0 < length W → 0 < length F → with_minus X ≡ some e

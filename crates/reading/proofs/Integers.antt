@@ -24,7 +24,7 @@ use Rattle.frames.specs.declared.Prefix.TheVariants.{NoPrefix, Octal, HexLower, 
 use Rattle.reading.specs.Kept.{kept}
 use Rattle.reading.specs.Reading.{whole_number, with_minus, before_close, read_decimal, after_prefix, or_whole, read_bits}
 use Rattle.reading.proofs.Kept.{kept_append, kept-spaces, kept-letters, kept-grouped, zero_letters}
-use Rattle.reading.proofs.Digits.{letter_is_not, whole_read}
+use Rattle.reading.proofs.Digits.{letter-is_not, whole_read}
 
 -- A value's text in a frame: `a` spaces in front of it, `z` zeros, `i` spaces of left adjustment.
 abbrev pub spaced : ℕ → Mark → Prefix → ℕ → List ℕ → ℕ → List ℕ
@@ -81,7 +81,7 @@ unfolding with_minus letters_of
 unmarked n [] d = absurd (omega (arith, d.some_digit))
 unmarked n (c ∷ cs) d =
     let h : c < 16 = omega (arith, d.below.0) in
-    simp (letter_is_not (code "-") c h (λ x p q e. omega arith), whole_read 10 (c ∷ cs) (lit≤ tt) d.below d.some_digit, d.number)
+    simp (letter-is_not (code "-") c h (λ x p q e. omega arith), whole_read 10 (c ∷ cs) (lit≤ tt) d.below d.some_digit, d.number)
 
 pub after_minus : (n : ℕ) (ds : List ℕ) → Digits 10 n ds → with_minus (code "-" ∷ letters_of false ds) ≡ some (signed true n)
 unfolding with_minus
@@ -93,7 +93,7 @@ unfolding read_decimal letters_of
 plain n [] d = absurd (omega (arith, d.some_digit))
 plain n (c ∷ cs) d =
     let h : c < 16 = omega (arith, d.below.0) in
-    simp (letter_is_not (code "(") c h (λ x p q e. omega arith)) (unmarked n (c ∷ cs) d)
+    simp (letter-is_not (code "(") c h (λ x p q e. omega arith)) (unmarked n (c ∷ cs) d)
 
 -- .. inside brackets
 before_close_lem : (xs : List ℕ) → before_close (xs ++ (code ")" ∷ [])) ≡ some xs
@@ -137,7 +137,7 @@ no_prefix : (ds : List ℕ) → Below 16 ds → after_prefix (letters_of false d
 unfolding after_prefix letters_of
 no_prefix [] b = refl
 no_prefix (c ∷ []) b = refl
-no_prefix (c ∷ d ∷ ds) b = simp (letter_is_not (code "x") d b.1.0 (λ x p q e. omega arith)) (neither (eqb (letter_of false c) (code "0")))
+no_prefix (c ∷ d ∷ ds) b = simp (letter-is_not (code "x") d b.1.0 (λ x p q e. omega arith)) (neither (eqb (letter_of false c) (code "0")))
   where
     neither : (t : Bool) → choose {A = Option (List ℕ)} (t && false) (λ _. some (letters_of false ds)) (λ _. none) ≡ none
     neither true = refl

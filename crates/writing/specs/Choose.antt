@@ -1,5 +1,5 @@
 -- A choice by a test.
-use mathlib.Core.Bool.{Bool, true, false}
+use Rattle.std.specs.Prelude.{Bool, true, false}
 
 -- The first where the test holds, else the second. Each waits for `tt`, so that only the one that is taken is computed.
 abbrev pub choose : {A : Type 0} → Bool → (Unit {0} → A) → (Unit {0} → A) → A

@@ -1,10 +1,7 @@
 -- Text by its characters.
-use Prim.Native.Nat.{ℕ}
+use Rattle.std.specs.Prelude.{ℕ, Bool, false, ◌||◌, List, [], ◌∷◌, eqb}
 use Prim.Native.Char.{code}
-use Prim.Native.String.{String, [] as empty, _∷_ as _then_}
-use mathlib.Core.Bool.{Bool, false, _||_}
-use mathlib.Core.List.{List, [], _∷_}
-use lib.Dec.{eqb}
+use Prim.Native.String.{String, [] as empty, ◌∷◌ as ◌then◌}
 
 -- The bytes of a text in ASCII.
 abbrev pub ascii : String → List ℕ

@@ -1,11 +1,7 @@
 -- What the writers answer and leave. No contract of an entry speaks of these.
-use Prim.Native.Nat.{ℕ}
-use mathlib.Core.Path.{_≡_}
-use mathlib.Core.List.{List}
-use lib.Dec.{leb}
-use lib.ListN.{length}
-use Rattle·writing·specs.specs.Choose.{choose}
-use Rattle·writing·specs.specs.Laid.{laid}
+use Rattle.std.specs.Prelude.{ℕ, ◌≡◌, List, leb, length}
+use Rattle.writing.specs.Choose.{choose}
+use Rattle.writing.specs.Laid.{laid}
 
 -- The text t laid over the start of d where there is room for it; else d as it was.
 unfoldable pub laid_if_room : List ℕ → List ℕ → List ℕ

@@ -1,15 +1,12 @@
 // Writers of bytes into the start of a lent slice. What lies past the text keeps its content.
-ghost use mathlib.Core.Path.{_≡_};
-ghost use mathlib.Core.List.{[], _∷_};
-ghost use Prim.Native.Nat.{_≤_};
-ghost use lib.ListN.{length, replicate};
-ghost use Rattle·writing·specs.specs.Laid.{laid};
-ghost use Rattle·writing·specs.specs.Writers.{Wrote, Put};
+ghost use Rattle.std.specs.Prelude.{◌≡◌, [], ◌∷◌, ◌≤◌, length, replicate};
+ghost use Rattle.writing.specs.Laid.{laid};
+ghost use Rattle.writing.specs.Writers.{Wrote, Put};
 
 // Copies the text. Answers its length.
 pub fn write_text(out: &mut [u8], text: &[u8]) -> usize
-    requires { ⌜ length (now text) ≤ length (now out) ⌝ }
-    ensures { λ r. ⌜ Wrote (now (out .entry)) (now (text .entry)) r (now (out .exit)) ⌝ }
+    requires { length text.now ≤ length out.old }
+    ensures { Wrote out.old text.now result out.new }
 {
     let mut i = 0;
     while i < text.len() {
@@ -21,8 +18,8 @@ pub fn write_text(out: &mut [u8], text: &[u8]) -> usize
 
 // Writes the byte b n times. Answers n.
 pub fn write_fill(out: &mut [u8], n: usize, b: u8) -> usize
-    requires { ⌜ n ≤ length (now out) ⌝ }
-    ensures { λ r. ⌜ (r ≡ n) × (now (out .exit) ≡ laid (now (out .entry)) (replicate n b)) ⌝ }
+    requires { n ≤ length out.old }
+    ensures { (result ≡ n) × (out.new ≡ laid out.old (replicate n b)) }
 {
     let mut i = 0;
     while i < n {
@@ -34,7 +31,7 @@ pub fn write_fill(out: &mut [u8], n: usize, b: u8) -> usize
 
 // Copies the text where there is room for it. Answers its length.
 pub fn put_text(out: &mut [u8], text: &[u8]) -> usize
-    ensures { λ r. ⌜ Put (now (out .entry)) (now (text .entry)) r (now (out .exit)) ⌝ }
+    ensures { Put out.old text.now result out.new }
 {
     if text.len() <= out.len() {
         write_text(out, text);
@@ -44,7 +41,7 @@ pub fn put_text(out: &mut [u8], text: &[u8]) -> usize
 
 // Writes a byte where there is room for it. Answers 1.
 pub fn put_byte(out: &mut [u8], b: u8) -> usize
-    ensures { λ r. ⌜ Put (now (out .entry)) (b ∷ []) r (now (out .exit)) ⌝ }
+    ensures { Put out.old (b ∷ []) result out.new }
 {
     if 0 < out.len() {
         out[0] = b;
