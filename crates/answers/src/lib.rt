@@ -1,4 +1,6 @@
 // The whole answer of the program `sheet` to its input, made in a lent slice. crates/sheet/README.md has the layout of both.
+#![tactic(auto)]
+
 pub mod lines;
 
 ghost use Rattle.std.specs.Prelude.{◌≤◌, length};

@@ -1,6 +1,8 @@
 // binary64 values: fields, category, exact scaling, rounding, and the parts of their hexadecimal text.
 // Ported in part from format_string.rs of datafusion-spark 55.2.0 (Apache-2.0; see NOTICE): FloatBits::to_parts,
 // trim_trailing_0s_hex, and the digits of format_hex_float.
+#![tactic(auto)]
+
 ghost use Rattle.std.specs.Prelude.{◌≡◌, ◌^◌, ◌≤◌, ◌<◌};
 ghost use Rattle.binary64.specs.Fields.{negative, exponent_field, fraction_field, category_of, scaled_bits};
 ghost use Rattle.binary64.specs.Rounding.{nearest_to, kept_digits};
@@ -9,7 +11,7 @@ ghost use Rattle.binary64.specs.HexFloat.{shortest, rounded, normal_of, subnorma
 use numerals::NumericParam;
 
 // The fields of a bit pattern: sign, biased exponent, fraction.
-#[derive(Drop)]
+#[derive(Clone, Copy)]
 pub struct FloatParts {
     pub negative: bool,
     pub exponent: u32,
@@ -27,7 +29,7 @@ pub fn to_parts(bits: u64) -> FloatParts
 }
 
 // What bits stand for; the original's standard library tells apart three cases that are finite.
-#[derive(Drop)]
+#[derive(Clone, Copy)]
 pub enum FpCategory {
     Nan,
     Infinite,
@@ -77,7 +79,7 @@ fn nearest_to(x: u64, unit: u64) -> u64
 
 // The text of a finite value in parts: the digit before the point (1 where leading is set, else 0), the digits behind it as one number
 // and their count, zeros behind these, and the exponent, which is exponent less bias.
-#[derive(Drop)]
+#[derive(Clone, Copy)]
 pub struct HexFloat {
     pub leading: bool,
     pub fraction: u64,

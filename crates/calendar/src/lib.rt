@@ -1,4 +1,6 @@
 // The calendar: the date, the weekday and the time of day of a timestamp.
+#![tactic(auto)]
+
 ghost use Rattle.std.specs.Prelude.{◌≡◌, ◌/◌, ◌%◌, ◌≤◌, ◌<◌};
 ghost use Rattle.numerals.specs.Integers.{int_of};
 ghost use Rattle.calendar.specs.Dates.{is_leap, days_of, month_length, year_length, year_day, month_day};
@@ -9,7 +11,7 @@ ghost use Rattle.calendar.specs.Steps.{evened};
 const EPOCH_SECONDS: u64 = 62167219200;
 
 // A moment of UTC. Months, days and the ordinal, which is the day of the year, count from 1, weekdays from Monday, 0.
-#[derive(Drop)]
+#[derive(Clone, Copy)]
 pub struct Moment {
     pub year: u64,
     pub month: u64,
@@ -23,7 +25,7 @@ pub struct Moment {
 }
 
 // Whole years or months counted off from days, and the days that are left.
-#[derive(Drop)]
+#[derive(Clone, Copy)]
 struct Counted {
     whole: u64,
     left: u64,
@@ -96,7 +98,7 @@ fn month_day(leap: bool, day: u64) -> Counted
 }
 
 // The seconds from the beginning of the year 0, and the nanoseconds behind the last of them.
-#[derive(Drop)]
+#[derive(Clone, Copy)]
 struct Seconds {
     seconds: u64,
     nanos: u64,

@@ -10,14 +10,14 @@ use calendar::Moment;
 use kinds::letters::TimeFormat;
 
 // A part of a list of texts that stand one behind the other.
-#[derive(Drop)]
+#[derive(Clone, Copy)]
 pub struct Span {
     pub start: usize,
     pub len: usize,
 }
 
 // A part of a component's text: a number at so many places at least, a word, a byte.
-#[derive(Drop)]
+#[derive(Clone, Copy)]
 pub enum TimePart {
     Number(usize, u64),
     Word(Span),

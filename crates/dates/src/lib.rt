@@ -1,5 +1,7 @@
 // The text of a component of a date, written part by part.
 // Ported from format_string.rs of datafusion-spark 55.2.0 (Apache-2.0; see NOTICE): the writing of format_time_component.
+#![tactic(auto)]
+
 pub mod components;
 
 ghost use Rattle.std.specs.Prelude.{◌+◌, ◌≤◌, length};

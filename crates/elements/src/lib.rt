@@ -2,6 +2,8 @@
 // Ported from format_string.rs of datafusion-spark 55.2.0 (Apache-2.0; see NOTICE): format_integer, format_char, format_boolean,
 // format_hex_float and format_time, but for the text of a number, which is `numbers`, a text in its field, which is `fields`, and a component
 // of a date, which is `dates`.
+#![tactic(auto)]
+
 pub mod pieces;
 
 ghost use Rattle.std.specs.Prelude.{◌^◌, ◌<◌, length};
@@ -23,7 +25,7 @@ use pieces::Source;
 use specifiers::Element;
 
 // The length of a text, or the number that stops it.
-#[derive(Drop)]
+#[derive(Clone, Copy)]
 pub enum Size {
     Bytes(u64),
     Stops(u8),

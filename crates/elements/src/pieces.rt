@@ -11,7 +11,7 @@ use parsing::Piece;
 use rows::entries::Entry;
 
 // Where an unpadded text lies: in the format, or in the row, where an entry of kind 7 names one.
-#[derive(Drop)]
+#[derive(Clone, Copy)]
 pub enum Source {
     Format {
         start: usize,

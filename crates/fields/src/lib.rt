@@ -1,5 +1,7 @@
 // A text in a field of the element's width: a text or a word, and an integer's digits. Answers the length, and writes where there is room.
 // Ported from format_string.rs of datafusion-spark 55.2.0 (Apache-2.0; see NOTICE): format_string, and the digits of format_integer under %s.
+#![tactic(auto)]
+
 pub mod strings;
 
 ghost use Rattle.std.specs.Prelude.{◌≡◌, ◌^◌, ◌≤◌, ◌<◌, length};

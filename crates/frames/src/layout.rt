@@ -10,7 +10,7 @@ ghost use Rattle.frames.specs.Around.{around, FramePut};
 use crate::{Adjust, Frame, Mark, Prefix, Short};
 
 // What put_frame answers: how many bytes the frame adds, and where the text goes, if both fit.
-#[derive(Drop)]
+#[derive(Clone, Copy)]
 pub struct Framed {
     pub added: u64,
     pub at: usize,

@@ -1,6 +1,8 @@
 // What stands around the text of a value: marks, prefixes, and the frame that brings a text to a width, with its length.
 // Ported in part from format_string.rs of datafusion-spark 55.2.0 (Apache-2.0; see NOTICE): the padding of format_signed,
 // format_unsigned, format_str and format_hex_float.
+#![tactic(auto)]
+
 pub mod layout;
 
 ghost use Rattle.std.specs.Prelude.{◌≡◌, ◌+◌, ◌^◌, ◌≤◌, ◌<◌, length};
@@ -9,7 +11,7 @@ ghost use Rattle.frames.specs.Short.{StandsFor};
 ghost use Rattle.frames.specs.Bare.{is_bare};
 
 // The mark of a number.
-#[derive(Drop)]
+#[derive(Clone, Copy)]
 pub enum Mark {
     NoMark,
     Plus,
@@ -19,7 +21,7 @@ pub enum Mark {
 }
 
 // What `#` puts in front of digits.
-#[derive(Drop)]
+#[derive(Clone, Copy)]
 pub enum Prefix {
     NoPrefix,
     Octal,
@@ -28,7 +30,7 @@ pub enum Prefix {
 }
 
 // Where the padding stands: in front, behind, or in front as zeros.
-#[derive(Drop)]
+#[derive(Clone, Copy)]
 pub enum Adjust {
     Right,
     Left,
@@ -36,7 +38,7 @@ pub enum Adjust {
 }
 
 // Spaces in front, mark, prefix, zeros; spaces behind text and closing mark.
-#[derive(Drop)]
+#[derive(Clone, Copy)]
 pub struct Frame {
     pub before: u32,
     pub mark: Mark,
@@ -46,7 +48,7 @@ pub struct Frame {
 }
 
 // A text of at most two bytes: how many, the first and the second, 0 where there is none.
-#[derive(Drop)]
+#[derive(Clone, Copy)]
 pub struct Short(pub u8, pub u8, pub u8);
 
 // What a mark puts in front of the digits.

@@ -1,5 +1,7 @@
 // The hexadecimal text of a binary64 value: the digits of %a without mark, prefix and padding.
 // Ported in part from format_string.rs of datafusion-spark 55.2.0 (Apache-2.0; see NOTICE): the text of format_hex_float.
+#![tactic(auto)]
+
 ghost use Rattle.std.specs.Prelude.{◌≡◌, Bool, ◌≤◌, length};
 ghost use Rattle.writing.specs.Laid.{laid};
 ghost use Rattle.hexfloats.specs.Texts.{leading_letter, exponent_letter, exponent_text, hex_float_text};

@@ -7,7 +7,7 @@ ghost use Rattle.kinds.specs.Letters.{time_of, small_of, capital_of};
 use numerals::Radix;
 
 // The component of a date that a letter behind t or T names.
-#[derive(Drop)]
+#[derive(Clone, Copy)]
 pub enum TimeFormat {
     HUpper,
     IUpper,
@@ -42,7 +42,7 @@ pub enum TimeFormat {
 }
 
 // What a letter prints; its capital prints the same in capitals. The original has a variant for each letter.
-#[derive(Drop)]
+#[derive(Clone, Copy)]
 pub enum ConversionType {
     Boolean,
     HexHash,
@@ -54,13 +54,13 @@ pub enum ConversionType {
     Time(TimeFormat),
 }
 
-#[derive(Drop)]
+#[derive(Clone, Copy)]
 pub enum TimeLetter {
     Component(TimeFormat),
     NoComponent,
 }
 
-#[derive(Drop)]
+#[derive(Clone, Copy)]
 pub enum Letter {
     Conversion(ConversionType),
     NoConversion,

@@ -1,5 +1,7 @@
 // The kinds of value, which letter fits which kind, and how a letter prints a kind.
 // Ported from format_string.rs of datafusion-spark 55.2.0 (Apache-2.0; see NOTICE): ConversionType::validate.
+#![tactic(auto)]
+
 pub mod letters;
 
 ghost use Rattle.std.specs.Prelude.{◌≡◌, true};
@@ -9,14 +11,14 @@ use letters::{ConversionType, TimeFormat};
 use numerals::Radix;
 
 // An integer kind: its width in bits, and whether its values have a sign.
-#[derive(Drop)]
+#[derive(Clone, Copy)]
 pub struct IntegerKind {
     pub width: u32,
     pub signed: bool,
 }
 
 // A kind of value: an integer, a binary64 float, a Boolean, a text, a timestamp; or that a byte names none.
-#[derive(Drop)]
+#[derive(Clone, Copy)]
 pub enum Kind {
     Integer(IntegerKind),
     Float64,
@@ -27,7 +29,7 @@ pub enum Kind {
 }
 
 // How an integer is printed: as a numeral, as the character that it numbers, or by its decimal digits as text.
-#[derive(Drop)]
+#[derive(Clone, Copy)]
 pub enum IntegerForm {
     Numeral(Radix),
     Scalar,
@@ -35,7 +37,7 @@ pub enum IntegerForm {
 }
 
 // How a value is printed.
-#[derive(Drop)]
+#[derive(Clone, Copy)]
 pub enum Form {
     Integer {
         form: IntegerForm,
@@ -49,7 +51,7 @@ pub enum Form {
 }
 
 // What a conversion makes of a kind: it fits, and is printed so, or it does not fit.
-#[derive(Drop)]
+#[derive(Clone, Copy)]
 pub enum Fit {
     Fits(Form),
     Unfit,

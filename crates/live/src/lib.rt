@@ -1,6 +1,8 @@
 // A list of gates that join and leave, all under one format: for every piece the largest printed length among the gates present.
 // Memory is lent by the caller: the number of gates, their numbers, the largest length of each piece, and the lengths of each gate's pieces, of which a
 // leave works out the largest again without a row.
+#![tactic(auto)]
+
 ghost use Rattle.std.specs.Prelude.{◌≡◌, ◌+◌, ◌<◌, ◌≤◌, min, max, length};
 ghost use Rattle.gates.specs.Gates.{joins, refused, if_measured};
 ghost use Rattle.live.specs.Lists.{count_of, Represents};

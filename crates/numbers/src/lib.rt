@@ -1,6 +1,8 @@
 // The text of a number under an element, with mark, prefix and padding: an integer as a numeral, and a finite float. A writer writes where there is room.
 // Ported from format_string.rs of datafusion-spark 55.2.0 (Apache-2.0; see NOTICE): format_signed and format_unsigned (here the numeral of an integer, and its
 // writer put_numeral), and the finite values of format_hex_float.
+#![tactic(auto)]
+
 ghost use Rattle.std.specs.Prelude.{◌≡◌, ◌^◌, ◌≤◌, ◌<◌, length};
 ghost use Rattle.numerals.specs.Integers.{integer_of};
 ghost use Rattle.writing.specs.Writers.{Wrote, Put};
@@ -17,7 +19,7 @@ use specifiers::Element;
 use specifiers::flags::Flags;
 
 // An integer as digits in a base, with its mark and prefix; with commas where grouped is set.
-#[derive(Drop)]
+#[derive(Clone, Copy)]
 pub struct Numeral {
     pub mark: Mark,
     pub prefix: Prefix,

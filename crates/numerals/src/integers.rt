@@ -4,7 +4,7 @@ ghost use Rattle.std.specs.Prelude.{◌≡◌, ◌%◌, ◌^◌, unsigned_abs};
 ghost use Rattle.numerals.specs.Integers.{int_of, is_negative, integer_of, sign_magnitude};
 
 // The sign and the magnitude of an integer.
-#[derive(Drop)]
+#[derive(Clone, Copy)]
 pub struct SignMagnitude {
     pub negative: bool,
     pub magnitude: u64,

@@ -1,6 +1,8 @@
 // Whole numbers as text: digits in a base.
 // Ported in part from format_string.rs of datafusion-spark 55.2.0 (Apache-2.0; see NOTICE): the digit writing of format_unsigned and
 // format_signed.
+#![tactic(auto)]
+
 pub mod grouping;
 pub mod integers;
 
@@ -10,7 +12,7 @@ ghost use Rattle.numerals.specs.Digits.{digits_in, places, letter_of, letters_of
 ghost use Rattle.numerals.specs.Bases.{base_of};
 
 // The base in which a number is written.
-#[derive(Drop)]
+#[derive(Clone, Copy)]
 pub enum Radix {
     Decimal,
     Octal,
@@ -18,7 +20,7 @@ pub enum Radix {
 }
 
 // A number that a format may give: a width or a precision, by its digits, or none. The original's names.
-#[derive(Drop)]
+#[derive(Clone, Copy)]
 pub enum NumericParam {
     Literal(u32),
     FromArgument,

@@ -1,5 +1,7 @@
 // The panel's C entries: checking, measuring and printing on numbers and byte slices, and a list of gates that join and leave. panel.h has their meaning
 // for C.
+#![tactic(auto)]
+
 ghost use Rattle.std.specs.Prelude.{◌≡◌, ◌*◌, ◌/◌, ◌≤◌, length};
 ghost use Rattle.parsing.specs.Check.{checked};
 ghost use Rattle.outcomes.specs.Printed.{measured, printed};
@@ -16,7 +18,7 @@ use parsing::Checked;
 
 // number is 0 where the format is accepted; else it is the refusal's, with its place.
 #[repr(C)]
-#[derive(Drop)]
+#[derive(Clone, Copy)]
 pub struct CheckAnswer {
     pub number: u64,
     pub place: u64,
@@ -26,7 +28,7 @@ pub struct CheckAnswer {
 
 // number is 0 where the row is printed or measured; else it is the refusal's, with its place.
 #[repr(C)]
-#[derive(Drop)]
+#[derive(Clone, Copy)]
 pub struct PrintAnswer {
     pub number: u64,
     pub place: u64,

@@ -6,7 +6,7 @@ ghost use Rattle.parsing.specs.Indexes.{is_index, among_kinds, index_at, same_in
 use specifiers::params::Number;
 
 // The argument of an element: its index, the place behind it, and the running count.
-#[derive(Drop)]
+#[derive(Clone, Copy)]
 pub enum Index {
     Named {
         argument: usize,

@@ -1,6 +1,8 @@
 // Reading a format: the next piece from a cursor on. A format checked against kinds is a pass over its pieces (`printing::passes`).
 // Ported from format_string.rs of datafusion-spark 55.2.0 (Apache-2.0; see NOTICE): Formatter::parse. The original keeps a
 // vector of elements; here a cursor reads the format again from an offset.
+#![tactic(auto)]
+
 pub mod arguments;
 pub mod scanning;
 
@@ -13,7 +15,7 @@ use arguments::Index;
 use specifiers::{Element, Specifier};
 
 // A piece: part of the format as it stands, a byte that does not stand in it (`%n`), or an element.
-#[derive(Drop)]
+#[derive(Clone, Copy)]
 pub enum Piece {
     Fixed { start: usize, len: usize },
     Byte(u8),
@@ -21,7 +23,7 @@ pub enum Piece {
 }
 
 // Where reading stands: the offset, the running count, and the argument that `%<` takes (0 for none).
-#[derive(Drop)]
+#[derive(Clone, Copy)]
 pub struct Cursor {
     pub at: usize,
     pub count: usize,
@@ -29,21 +31,21 @@ pub struct Cursor {
 }
 
 // The piece at a cursor and the cursor behind it, or the number that refuses it; its place is the cursor's.
-#[derive(Drop)]
+#[derive(Clone, Copy)]
 pub enum Step {
     Found { piece: Piece, next: Cursor },
     Refused { number: u8 },
 }
 
 // Where reading ends: behind the last piece, or at a refusal.
-#[derive(Drop)]
+#[derive(Clone, Copy)]
 pub enum Ended {
     Finished,
     Stopped { number: u8, place: usize },
 }
 
 // The answer of checking.
-#[derive(Drop)]
+#[derive(Clone, Copy)]
 pub enum Checked {
     Accepted { pieces: usize, largest: usize },
     Refused { number: u8, place: usize },

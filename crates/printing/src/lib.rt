@@ -2,6 +2,8 @@
 // Ported from format_string.rs of datafusion-spark 55.2.0 (Apache-2.0; see NOTICE): the loops of Formatter::parse and Formatter::format. The original
 // pushes the text of each element to a string; here one pass over the pieces finds every refusal and the text's length, and writes as far as it has
 // room; what is lent to a caller is written only once no refusal is left.
+#![tactic(auto)]
+
 pub mod passes;
 pub mod tallies;
 

@@ -8,7 +8,7 @@ use crate::tallies::Tally;
 use parsing::{Ended, Step};
 
 // What a pass comes to: where reading ended, what was added up, the pieces and the largest argument index.
-#[derive(Drop)]
+#[derive(Clone, Copy)]
 pub struct Walked {
     pub end: Ended,
     pub tally: Tally,

@@ -11,7 +11,7 @@ use elements::Size;
 use parsing::Piece;
 
 // What a pass adds up: the length of the pieces so far, or the first of them that is not printed.
-#[derive(Drop)]
+#[derive(Clone, Copy)]
 pub enum Tally {
     Length(u64),
     Stops { number: u8, place: usize },

@@ -1,1 +1,2 @@
 // Reading a printed piece back: definitions and laws, no code.
+#![tactic(auto)]

@@ -1,4 +1,6 @@
 // The records of a list of vectors: one is read, it is counted, and the counts of lists are added up. crates/vectors/README.md has the layout.
+#![tactic(auto)]
+
 pub mod statements;
 
 ghost use Rattle.std.specs.Prelude.{◌≡◌, ◌+◌, ◌≤◌, ◌<◌, false, length};
@@ -10,14 +12,14 @@ ghost use Rattle.records.specs.declared.End.TheVariants.{At};
 use statements::Stated;
 
 // Where a part ends.
-#[derive(Drop)]
+#[derive(Clone, Copy)]
 pub enum End {
     At(usize),
     Outside,
 }
 
 // What is stated at a place, and the place behind it.
-#[derive(Drop)]
+#[derive(Clone, Copy)]
 pub enum Read {
     Whole { stated: Stated, next: usize },
     Broken,
@@ -25,7 +27,7 @@ pub enum Read {
 
 // A record by its places in the list: the format up to the two bytes before the values, its kinds or its row, these up to the tag. It is of printing, or
 // else of checking.
-#[derive(Drop)]
+#[derive(Clone, Copy)]
 pub struct Record {
     pub prints: bool,
     pub format: usize,
@@ -35,14 +37,14 @@ pub struct Record {
     pub next: usize,
 }
 
-#[derive(Drop)]
+#[derive(Clone, Copy)]
 pub enum Found {
     Whole(Record),
     Broken,
 }
 
 // Where a list stands: the next record's place, and the records so far that hold, and that do not.
-#[derive(Drop)]
+#[derive(Clone, Copy)]
 pub struct Tally {
     pub at: usize,
     pub passed: usize,

@@ -6,7 +6,7 @@ ghost use Rattle.records.specs.declared.statements.Stated.TheVariants.{Prints};
 
 // What a record says that a call answers: checking accepts, with pieces and largest argument index; printing accepts, with the text between two places
 // and behind it so many ends; or a refusal.
-#[derive(Drop)]
+#[derive(Clone, Copy)]
 pub enum Stated {
     Accepts {
         pieces: usize,

@@ -1,5 +1,6 @@
 // 01's table, "What stops a call": the number of each refusal, with the table's words, in its order, and those that later requests add; and the
 // limits that they name.
+#![tactic(auto)]
 
 // format over 4,096 bytes
 pub const LONG_FORMAT: u8 = 1;

@@ -6,7 +6,7 @@ ghost use Rattle.rows.specs.Widths.{HasWidth};
 use kinds::{IntegerKind, Kind};
 
 // What a row has for one of its arguments.
-#[derive(Drop)]
+#[derive(Clone, Copy)]
 pub struct Entry {
     pub kind: Kind,
     pub null: bool,

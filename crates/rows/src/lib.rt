@@ -1,4 +1,6 @@
 // The row of values: its layout tested, and the entry of each argument.
+#![tactic(auto)]
+
 pub mod entries;
 
 ghost use Rattle.std.specs.Prelude.{◌≡◌, ◌+◌, ◌*◌, ◌^◌, ◌<◌, ◌≤◌, length};
@@ -34,7 +36,7 @@ fn are_entries(row: &[u8], n: usize) -> bool
 }
 
 // A row that keeps its layout, with its count of arguments; any other is refused with 14.
-#[derive(Drop)]
+#[derive(Clone, Copy)]
 pub enum RowRead {
     Row { count: usize },
     Broken,

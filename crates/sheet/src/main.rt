@@ -1,4 +1,6 @@
 // Answers the format and row of standard input on standard output. README.md has the layout of both.
+#![tactic(auto)]
+
 use libc::{STDIN_FILENO, STDOUT_FILENO};
 
 // The first 65,536 bytes of standard input; the rest is not looked at.

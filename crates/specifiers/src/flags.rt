@@ -6,7 +6,7 @@ ghost use Rattle.specifiers.specs.Steps.{step_of, StopHanded};
 
 // The flags that were read. The original's names are alt_form, zero_pad, left_adj, space_sign, force_sign, grouping_separator and
 // negative_in_parentheses; a definition can name a field plainly only where it is one word.
-#[derive(Drop)]
+#[derive(Clone, Copy)]
 pub struct Flags {
     pub alternate: bool,
     pub zero: bool,
@@ -18,20 +18,20 @@ pub struct Flags {
 }
 
 // What a byte does to the flags: one more is set, or they stop.
-#[derive(Drop)]
+#[derive(Clone, Copy)]
 pub enum FlagStep {
     Set(Flags),
     Stops(FlagStop),
 }
 
 // Why flags stop: the byte is none, or it clashes with an earlier one.
-#[derive(Drop)]
+#[derive(Clone, Copy)]
 pub enum FlagStop {
     NoFlag,
     Clash(u8),
 }
 
-#[derive(Drop)]
+#[derive(Clone, Copy)]
 pub enum FlagsTaken {
     Read { flags: Flags, next: usize },
     Refused { number: u8 },

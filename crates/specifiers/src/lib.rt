@@ -1,5 +1,7 @@
 // What stands behind an element's index: flags, width, precision and letter.
 // Ported from format_string.rs of datafusion-spark 55.2.0 (Apache-2.0; see NOTICE): take_conversion_specifier.
+#![tactic(auto)]
+
 pub mod flags;
 pub mod params;
 
@@ -14,7 +16,7 @@ use kinds::{Fit, Form};
 use numerals::NumericParam;
 use params::Taken;
 
-#[derive(Drop)]
+#[derive(Clone, Copy)]
 pub enum LetterTaken {
     Read {
         conversion: ConversionType,
@@ -27,14 +29,14 @@ pub enum LetterTaken {
 }
 
 // What stands between an element's index and its letter.
-#[derive(Drop)]
+#[derive(Clone, Copy)]
 pub struct Parts {
     pub flags: Flags,
     pub width: NumericParam,
     pub precision: NumericParam,
 }
 
-#[derive(Drop)]
+#[derive(Clone, Copy)]
 pub enum PartsTaken {
     Read { parts: Parts, next: usize },
     Refused { number: u8 },
@@ -42,7 +44,7 @@ pub enum PartsTaken {
 
 // An element: the argument that it takes, its flags, width, precision and letter, a capital where upper is set, and the form in which the letter prints the
 // argument's kind.
-#[derive(Drop)]
+#[derive(Clone, Copy)]
 pub struct Element {
     pub argument: usize,
     pub flags: Flags,
@@ -53,7 +55,7 @@ pub struct Element {
     pub form: Form,
 }
 
-#[derive(Drop)]
+#[derive(Clone, Copy)]
 pub enum Specifier {
     Read { element: Element, next: usize },
     Refused { number: u8 },

@@ -6,14 +6,14 @@ ghost use Rattle.specifiers.specs.Params.{begins_param, leading_digits, number_a
 use numerals::NumericParam;
 
 // The answer of take_number: the number and the place behind its digits, or a number above the largest.
-#[derive(Drop)]
+#[derive(Clone, Copy)]
 pub enum Number {
     Value { value: u32, next: usize },
     TooLarge,
 }
 
 // The answer of take_numeric_param: the parameter and the place behind it, or a number above the largest.
-#[derive(Drop)]
+#[derive(Clone, Copy)]
 pub enum Taken {
     Param { param: NumericParam, next: usize },
     TooLarge,

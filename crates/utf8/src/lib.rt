@@ -1,4 +1,6 @@
 // UTF-8: one test of well-formedness, for formats and for the texts of a row.
+#![tactic(auto)]
+
 pub mod scalars;
 
 ghost use Rattle.std.specs.Prelude.{◌≡◌, ◌≤◌, ◌<◌, max};
@@ -6,7 +8,7 @@ ghost use Rattle.utf8.specs.Utf8.{lead_of, well_formed};
 ghost use Rattle.utf8.specs.Largest.{largest_of};
 
 // What follows a first byte: how many bytes, and the range of the next one.
-#[derive(Drop)]
+#[derive(Clone, Copy)]
 pub enum Lead {
     Follow { need: u8, low: u8, high: u8 },
     NoLead,

@@ -1,4 +1,6 @@
 // Runs the lists of vectors in its folder: each record's call is made, and its answer compared with the one that the record states.
+#![tactic(auto)]
+
 ghost use Rattle.std.specs.Prelude.{◌≡◌, ◌+◌, ◌≤◌, ◌<◌, length};
 ghost use Rattle.records.specs.Stated.{TextLies};
 ghost use Rattle.records.specs.Places.{Lies};

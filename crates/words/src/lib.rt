@@ -1,4 +1,6 @@
 // Numbers as little-endian bytes.
+#![tactic(auto)]
+
 ghost use Rattle.std.specs.Prelude.{◌≡◌, ◌+◌, ◌*◌, ◌≤◌, ◌<◌, length};
 ghost use Rattle.writing.specs.Laid.{laid};
 ghost use Rattle.words.specs.LittleEndian.{word_at, bytes_of, all_bytes};

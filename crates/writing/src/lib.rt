@@ -1,4 +1,6 @@
 // Writers of bytes into the start of a lent slice. What lies past the text keeps its content.
+#![tactic(auto)]
+
 ghost use Rattle.std.specs.Prelude.{◌≡◌, [], ◌∷◌, ◌≤◌, length, replicate};
 ghost use Rattle.writing.specs.Laid.{laid};
 ghost use Rattle.writing.specs.Writers.{Wrote, Put};
