@@ -16,11 +16,11 @@ pub present_at : (n : ℕ) (gates : List Gate) (i : ℕ) → i < length gates �
 unfolding is_present
 present_at n [] i h e = absurd (omega arith)
 present_at n (g ∷ gates) zero h e = simp (eq-eqb _ _ e)
-present_at n (g ∷ gates) (suc i) h e = ap (λ (t : Bool). eqb g.number n || t) (present_at n gates i (omega arith) e) ∙ or_true (eqb g.number n)
+present_at n (g ∷ gates) (suc i) h e = ap (λ (t : Bool). eqb g.number n || t) (present_at n gates i (omega arith) e) ∙ or-true (eqb g.number n)
   where
-    or_true : (t : Bool) → (t || true) ≡ true
-    or_true true = refl
-    or_true false = refl
+    or-true : (t : Bool) → (t || true) ≡ true
+    or-true true = refl
+    or-true false = refl
 
 pub absent : (n : ℕ) (gates : List Gate) → ((i : ℕ) → i < length gates → (gate_at gates i).number ≡ n → ⊥) → is_present n gates ≡ false
 unfolding is_present

@@ -86,18 +86,18 @@ module _ (zero : Bool) (s : List ℕ) (at : ℕ) (as-digit : is_param zero (drop
       simp some (ap param_of (number_large s at (d ∷ ds) rest here run h))
 
 -- A width does not begin with 0, which is a flag; a precision may.
-and_true : (b : Bool) → (b && true) ≡ b
-and_true true = refl
-and_true false = refl
+and-true : (b : Bool) → (b && true) ≡ b
+and-true true = refl
+and-true false = refl
 
 pub width_digit : (l : List ℕ) → begins is_flag l ≡ false → is_param false l ≡ begins is_digit l
 unfolding has
 width_digit [] h = refl
-width_digit (x ∷ l) h = simp (ne_eqb x (code "0") (λ e. never (sym h ∙ ap is_flag e))) (and_true (is_digit x))
+width_digit (x ∷ l) h = simp (ne_eqb x (code "0") (λ e. never (sym h ∙ ap is_flag e))) (and-true (is_digit x))
 
 pub precision_digit : (l : List ℕ) → is_param true l ≡ begins is_digit l
 precision_digit [] = refl
-precision_digit (x ∷ l) = and_true (is_digit x)
+precision_digit (x ∷ l) = and-true (is_digit x)
 
 -- An index begins with a digit that is not 0, and with no byte that is no digit; and so begins every index.
 pub index_param : (ds l : List ℕ) → IsIndex ds → is_param false (ds ++ l) ≡ true

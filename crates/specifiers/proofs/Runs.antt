@@ -1,6 +1,6 @@
 -- How the flags go on at a place of the format. Assumes nothing.
 use mathlib.Core.Path.{◌≡◌, refl, ap, ◌∙◌}
-use mathlib.Core.Bool.{Bool, true, false, ◌||◌, or_true}
+use mathlib.Core.Bool.{Bool, true, false, ◌||◌, or-true}
 use mathlib.Core.List.{List, [], ◌∷◌, ◌++◌, append_assoc, append-nil}
 use mathlib.Core.Option.{Option, none, some}
 use Prim.Native.Nat.{ℕ, ◌+◌, ◌≤◌, ◌<◌}
@@ -26,7 +26,7 @@ has_more [] b c = refl
 has_more (a ∷ bs) b c = rw (has_more bs b c) (exchange (eqb a c) (eqb b c))
   where
     exchange : (x y : Bool) → (x || (y || has bs c)) ≡ (y || (x || has bs c))
-    exchange x true = or_true x
+    exchange x true = or-true x
     exchange x false = refl
 
 -- The flags from the place at on are read up to i: they are the bytes before, none of which clashes, and say what f says.

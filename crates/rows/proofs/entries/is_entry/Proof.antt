@@ -1,6 +1,6 @@
 -- `rows::entries::is_entry` meets its contract. Assumes nothing.
 use Rattle.std.proofs.Common.{sym, ◌∙◌, rules, eq-eqb, ne_eqb}
-use mathlib.Core.Bool.{and_true, and-false}
+use mathlib.Core.Bool.{and-true, and-false}
 use Rattle.rows.specs.Entry.{can_be_null, is_entry}
 use Rattle.rows.proofs.entries.is_entry.Statement.{statement}
 use Rattle.rows.proofs.entries.is_entry.Tie as tie
@@ -10,7 +10,7 @@ can-be-null-requires c κs = search rules
 
 returns : tie.Need-returns
 unfolding is_entry
-returns c = simp (c.before.before.before.if1.true, eq-eqb _ _ c.before.if2.true) (c.can-be-null.ensures ∙ sym (and_true _))
+returns c = simp (c.before.before.before.if1.true, eq-eqb _ _ c.before.if2.true) (c.can-be-null.ensures ∙ sym (and-true _))
 
 returns-2 : tie.Need-returns-2
 unfolding is_entry

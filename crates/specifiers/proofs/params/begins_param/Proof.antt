@@ -1,7 +1,7 @@
 -- `specifiers::params::begins_param` meets its contract. Assumes nothing.
 use Prim.Native.Char.{code}
 use mathlib.Core.Path.{sym}
-use mathlib.Core.Bool.{or_true, or-false}
+use mathlib.Core.Bool.{or-true, or-false}
 use borrow.Author.Tests.{le-leb, lt-leb, eq-eqb, ne_eqb}
 use Rattle.specifiers.proofs.params.begins_param.Statement.{statement}
 use Rattle.specifiers.proofs.params.begins_param.Tie as tie
@@ -24,7 +24,7 @@ returns-4 c =
     let upper = c.before in
     let lower = upper.before in
     simp (le-leb (code "0") _ lower.if1.false, le-leb _ (code "9") upper.if2.false, ne_eqb _ (code "0") c.if3.false)
-    (sym (or_true lower.before.args.zero))
+    (sym (or-true lower.before.args.zero))
 
 pub begins-param-spec : {M : Type 1} → statement M
 begins-param-spec = tie.close (tie.spec returns returns-2 returns-3 returns-4)
