@@ -7,8 +7,8 @@ use Rattle.numerals.specs.Integers.{signed}
 use Rattle.reading.specs.Kept.{kept}
 
 -- f of what a step found; nothing where it found nothing
-infixl 20 ◌andThen◌
-abbrev pub ◌andThen◌ : {A B : Type 0} → Option A → (A → Option B) → Option B
+infixl 20 ◌and_then◌
+abbrev pub ◌and_then◌ : {A B : Type 0} → Option A → (A → Option B) → Option B
 none and_then f = none
 some a and_then f = f a
 
