@@ -78,6 +78,7 @@ module _ (s ks : List ℕ) where
 
   pub kinds_bad : (number : ℕ) → BadInput (checking s ks) number → ((leb (length ks) most_kinds && all_known ks) ≡ false) × (number ≡ 3)
   kinds_bad number (many_kinds h) = (simp (lt-leb (length ks) most_kinds h), refl)
+  kinds_bad _ (broken_row {row = row} x _) = elim x [ ]
   kinds_bad number (no_kind k h n) = (go (leb (length ks) most_kinds) (all_known ks) refl, refl)
     where
       go : (a b : Bool) → all_known ks ≡ b → (a && b) ≡ false

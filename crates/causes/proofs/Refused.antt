@@ -160,6 +160,7 @@ refuses (checking s ks) (K.earlier_stop (K.reading b x)) =
     let known = checked-kinds ks (both (leb (length ks) most_kinds) (all_known ks) k).1 in
     ap of_checked
     (read-checked s ks b.short b.formed k ∙ ap (λ (e : Ended). checked_end e (placed s ks)) (stopped_by s ks known x))
+refuses (checking s ks) {n = n} {p = p} (K.earlier_stop (K.unprinted {row = row} {parts = parts} b x w u)) = elim x [ ]
 refuses (measuring s row) (K.earlier_stop (K.long h)) = ap of_outcome (long-measured s row h)
 refuses (measuring s row) (K.earlier_stop (K.malformed h f)) = ap of_outcome (malformed-measured s row h f)
 refuses (measuring s row) (K.earlier_stop (K.input {number = number} h f b)) =

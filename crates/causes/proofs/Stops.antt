@@ -189,6 +189,7 @@ module _ (s row : List ℕ) where
 
   pub first_stops : {ps : List Placed} {parts : List Part} {n p : ℕ} → Lists (kinds_of row) ps parts → Each (HasKind row) parts → FirstUnprinted row parts n p
       → first_stop s row ps ≡ stop_on n p
+  first_stops {n = n} {p = p} Q.nothing known u = elim u [ ]
   first_stops (Q.one {ps} {before} {x} l is from to) known (earlier u) =
       first_snoc ps x ∙ ap (λ (t : Option Stop). or_else t (stop_at (piece_stop s row x.piece) x.from none)) (first_stops l known.1 u)
   first_stops {n = n} (Q.one {ps} {before} {x} l is from to) known (here u h) =
