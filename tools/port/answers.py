@@ -1,0 +1,214 @@
+#!/usr/bin/env python3
+"""Turns proofs that walk a function's code into Invariants.antt and Answers.antt, as far as a script can.
+
+usage: tools/port/answers.py CRATE [FUNCTION ..]    FUNCTION: its folder below proofs/, as flags/take_flags
+
+The kit lists each goal's old and new name (`rt check --generated DIR --old-names`). What `search rules` proved is left out: today's Rattle finds it by itself.
+What a script can't place is printed. Proofs that have Answers.antt or Invariants.antt are left alone.
+"""
+import json
+import pathlib
+import re
+import subprocess
+import sys
+import tempfile
+
+WORD = r"[^\W\d][\w'\-₀-₉]*"
+
+
+def norm(name: str) -> str:
+    return name.replace("-", "_").lower()
+
+
+def names_of(crate: pathlib.Path) -> dict:
+    with tempfile.TemporaryDirectory() as folder:
+        said = subprocess.run(["rt", "check", "--generated", folder, "--old-names"], cwd=crate, capture_output=True, text=True).stdout
+        file = pathlib.Path(folder) / "names.json"
+        if not file.exists():
+            sys.exit(said[-3000:])
+        return json.loads(file.read_text(encoding="utf-8"))
+
+
+def blocks(text: str) -> list[list[str]]:
+    """Declarations: each begins at a line in column 0 that is no clause of the one before it."""
+    out: list[list[str]] = []
+    name = None
+    for line in text.split("\n"):
+        if not line.strip():
+            continue
+        if line[0].isspace() or line.startswith((")", "]", "}")):
+            out[-1].append(line)
+            continue
+        head = re.match(rf"(?:pub |abbrev |unfoldable )*({WORD})", line)
+        if line.startswith("unfolding ") or (head and name == head[1] and not re.match(rf"(?:pub |abbrev |unfoldable )*{WORD}\s*:", line)):
+            out[-1].append(line)
+            continue
+        name = head[1] if head and not line.startswith(("use ", "--", "module ")) else None
+        out.append([line])
+    return out
+
+
+class Function:
+    def __init__(self, crate: str, folder: str, names: dict):
+        self.path = folder.replace("/", ".")
+        self.crate = crate
+        self.goals = {}
+        for old, new in names["needs"]:
+            self.goals.setdefault(norm(old), new)
+            self.goals.setdefault(norm(new), new)
+        self.order = [new for _, new in names["needs"]]
+        self.labels = {}
+        self.places = {}
+        for place, new in zip(names["places"], names["places_by_name"]):
+            self.places[norm(place[0])] = new
+            old_label, new_label = place[2]
+            self.labels.setdefault(norm(old_label), new_label)
+            for pair in place[4]:
+                self.labels.setdefault(norm(pair[0]), pair[1])
+        self.loops = {}
+        for (loop, variables), changed in zip(names["loops"], names["changed"]):
+            self.loops[norm(loop[0])] = (loop[1], variables, changed)
+            self.loops[norm(loop[1])] = (loop[1], variables, changed)
+        self.left: list[str] = []
+
+    def label(self, name: str) -> str:
+        for key in (norm(name), norm(name).removesuffix("_lem")):
+            if key in self.labels and self.labels[key]:
+                return self.labels[key]
+        return name
+
+    def body(self, text: str) -> str:
+        text = re.sub(r"(?<=[\w')])\.before(?![\w'-])", "", text)
+        steps = {"c"} | set(re.findall(rf"\(({WORD}) : tie\.", text))
+        for _ in range(9):
+            steps |= {name for name, of in re.findall(rf"\blet ({WORD}) = ({WORD}) in\b", text) if of in steps}
+        text = re.sub(rf"(?<![\w.'-])({'|'.join(sorted(steps))})\.({WORD})", lambda m: f"{m[1]}.{self.label(m[2])}", text)
+        return re.sub(rf"\btie\.({WORD})((?: invariant-[\w-]+)*(?: decreases-[\w-]+)*)", lambda m: "goal." + self.places.get(norm(m[1]), m[1]), text)
+
+    def invariant(self, block: list[str]) -> list[str]:
+        found = re.match(r"(?:abbrev )?(invariant|decreases)-([\w-]+)", block[0])
+        kind, loop = found[1], found[2]
+        if norm(loop) not in self.loops:
+            self.left.append("loop " + loop)
+            return block
+        new, variables, changed = self.loops[norm(loop)]
+        clause = "\n".join(block[1:])
+        head, _, rest = clause.partition("=")
+        params = head.split()[1:]
+        now = [v for v, c in zip(variables, changed) if c]
+        if len(params) != len(variables) + len(now):
+            self.left.append(f"{kind}-{loop}: {len(params)} parameters for {len(variables)} variables, {len(now)} changed")
+        turned = {}
+        for param, variable, change in zip(params, variables, changed):
+            turned[param] = f"l.initial.{variable}" if change else f"l.{variable}"
+        for param, variable in zip(params[len(variables) :], now):
+            turned[param] = f"l.{variable}"
+        rest = re.sub(rf"(?<![\w.'-]){WORD}", lambda m: turned.get(m[0], m[0]), rest)
+        return [f"abbrev pub {kind}-{new} : goal.{kind}-{new}", f"{kind}-{new} l ={self.body(rest)}", ""]
+
+    def answer(self, block: list[str], old: str, name: str) -> list[str]:
+        text = "\n".join(block)
+        clauses = [line for line in block[1:] if not line.startswith("unfolding ")]
+        if re.fullmatch(rf"{re.escape(name)}[^=]*=\s*search rules\s*", "\n".join(clauses)):
+            return []
+        new = self.goals.get(norm(old))
+        if new is None:
+            self.left.append(f"goal {old} of {name}")
+            return ["-- LEFT: " + old] + ["-- " + line for line in text.split("\n")]
+        out = [f"pub {new} : goal.{new}"]
+        text = "\n".join(block[1:])
+        text = re.sub(rf"(?m)^{re.escape(name)}(?![\w'-])", new, text)
+        text = re.sub(rf"(?m)^({re.escape(new)}(?: {WORD})*?) κs(?= )", r"\1", text)
+        return out + [self.body(text), ""]
+
+    def places_of(self, block: list[str], known: dict[str, str]) -> list[str]:
+        """The answers that the last declaration hands over: those that stand there and not under a name."""
+        text = " ".join(line.strip() for line in block[1:])
+        found = re.search(r"\(?tie\.spec\b(.*)", text)
+        if not found:
+            return []
+        arguments, depth, one = [], 0, ""
+        for letter in found[1].strip():
+            if letter == "(":
+                depth += 1
+            if letter == ")":
+                depth -= 1
+                if depth < 0:
+                    break
+            if letter == " " and depth == 0:
+                arguments += [one] if one else []
+                one = ""
+            else:
+                one += letter
+        arguments += [one] if one else []
+        arguments = [a for a in arguments if not re.match(r"(invariant|decreases)-", a)]
+        out = []
+        same = len(arguments) == len(self.order)
+        for k, one in enumerate(arguments):
+            found = re.fullmatch(r"\(λ (c(?: κs)?)\. (.*)\)", one)
+            if not found or found[2] == "search rules":
+                continue
+            new = self.order[k] if same else None
+            if new is None:
+                self.left.append(f"argument {k} of {len(arguments)}, goals {len(self.order)}: {one}")
+                out.append("-- LEFT: " + self.body(one))
+            else:
+                out += [f"pub {new} : goal.{new}", f"{new} c = {self.body(found[2])}", ""]
+        return out
+
+    def turn(self, text: str) -> tuple[str, str]:
+        comments, uses, invariants, answers = [], [], [], []
+        for block in blocks(text):
+            line = block[0]
+            if line.startswith("--"):
+                if not re.match(r"-- src/.*:\d+:\d+$", line):
+                    (comments if not (invariants or answers or uses) else answers).append(line)
+                continue
+            if line.startswith("use "):
+                whole = "\n".join(block)
+                if not re.search(r"\.(Statement|Tie)\b", whole):
+                    uses.append(whole)
+                continue
+            name = re.match(rf"(?:pub |abbrev |unfoldable )*({WORD})", line)[1]
+            need = re.search(rf"^(?:pub |abbrev )*{WORD} : tie\.Need-({WORD})", line)
+            if re.match(r"(?:abbrev )?(invariant|decreases)-", line):
+                invariants += self.invariant(block)
+            elif need and not line.startswith("module"):
+                answers += self.answer(block, need[1], name)
+            elif re.match(r"pub [\w'-]+[-_]spec : ", line):
+                answers += self.places_of(block, {})
+            else:
+                answers += [self.body("\n".join(block)), ""]
+        head = "\n".join(comments + uses)
+        goals = f"use Rattle.{self.crate}.proofs.{self.path}."
+        one = head + "\n" + goals + "Given as goal\n\n" + "\n".join(invariants).rstrip() + "\n" if invariants else ""
+        two = head + "\n" + goals + "Goals as goal\n\n" + "\n".join(answers).rstrip() + "\n" if any(a.strip() and not a.startswith("--") for a in answers) or self.left else ""
+        return one, two
+
+
+def main() -> None:
+    crate = sys.argv[1]
+    root = pathlib.Path("crates") / crate
+    names = names_of(root)
+    for proof in sorted(root.glob("proofs/**/Proof.antt")):
+        folder = proof.parent.relative_to(root / "proofs").as_posix()
+        if sys.argv[2:] and folder not in sys.argv[2:]:
+            continue
+        made = names.get(f"Rattle-{crate}-proofs.{folder.replace('/', '.')}.Lts")
+        if made is None:
+            print(f"{crate}::{folder}: the kit names no goals of it")
+            continue
+        function = Function(crate, folder, made)
+        one, two = function.turn(proof.read_text(encoding="utf-8"))
+        for file, text in (("Invariants.antt", one), ("Answers.antt", two)):
+            if text:
+                (proof.parent / file).write_text(text, encoding="utf-8")
+        proof.unlink()
+        if not one and not two:
+            proof.parent.rmdir()
+        for line in function.left:
+            print(f"{crate}::{folder}: left: {line}")
+
+
+if __name__ == "__main__":
+    main()
