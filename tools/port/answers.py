@@ -57,32 +57,57 @@ class Function:
             self.goals.setdefault(norm(old), new)
             self.goals.setdefault(norm(new), new)
         self.order = [new for _, new in names["needs"]]
-        self.labels = {}
-        self.places = {}
-        for place, new in zip(names["places"], names["places_by_name"]):
-            self.places[norm(place[0])] = new
-            old_label, new_label = place[2]
-            self.labels.setdefault(norm(old_label), new_label)
-            for pair in place[4]:
-                self.labels.setdefault(norm(pair[0]), pair[1])
+        self.at = {new: place[1] for (_, new), place in zip(names["needs"], names["asked_at"])}
+        self.places = {norm(place[0]): new for place, new in zip(names["places"], names["places_by_name"])}
+        self.steps = {new: (place, arm) for place, new, arm in zip(names["places"], names["places_by_name"], names["arms"])}
         self.loops = {}
         for (loop, variables), changed in zip(names["loops"], names["changed"]):
             self.loops[norm(loop[0])] = (loop[1], variables, changed)
             self.loops[norm(loop[1])] = (loop[1], variables, changed)
+        self.starts: list[str] = []
         self.left: list[str] = []
 
-    def label(self, name: str) -> str:
-        for key in (norm(name), norm(name).removesuffix("_lem")):
-            if key in self.labels and self.labels[key]:
-                return self.labels[key]
-        return name
+    def chain(self, place: str | None) -> tuple[dict[str, str], dict[tuple[str, str], str]]:
+        """The labels of the steps that lead to a place, the nearest first, and the fields of arms among them."""
+        labels: dict[str, str] = {}
+        arms: dict[tuple[str, str], str] = {}
+        every = [place] if place in self.steps else []
+        while every and (parent := self.steps[every[-1]][0][1]) is not None:
+            every.append(self.places[norm(parent)])
+        for name in every or list(self.steps):
+            step, arm = self.steps[name]
+            old, new = step[2]
+            labels.setdefault(norm(old), new)
+            for pair in step[4]:
+                labels.setdefault(norm(pair[0]), pair[1])
+            for field, label, *path in arm[2] if arm else []:
+                if not field.endswith("-own"):
+                    arms.setdefault((norm(label), ".".join(path[0])), f"{arm[0]}.{field}")
+        return labels, arms
 
-    def body(self, text: str) -> str:
+    def body(self, text: str, place: str | None = None) -> str:
         text = re.sub(r"(?<=[\w')])\.before(?![\w'-])", "", text)
+        if found := re.search(rf"\({WORD} : tie\.({WORD})", text):
+            place = self.places.get(norm(found[1]), place)
+        labels, arms = self.chain(place)
+        for name in self.starts:
+            text = re.sub(rf"\({re.escape(name)} ({WORD})\)", r"\1", text)
+            text = re.sub(rf"(?<![\w.'-]){re.escape(name)} ({WORD})", r"\1", text)
         steps = {"c"} | set(re.findall(rf"\(({WORD}) : tie\.", text))
-        for _ in range(9):
-            steps |= {name for name, of in re.findall(rf"\blet ({WORD}) = ({WORD}) in\b", text) if of in steps}
-        text = re.sub(rf"(?<![\w.'-])({'|'.join(sorted(steps))})\.({WORD})", lambda m: f"{m[1]}.{self.label(m[2])}", text)
+        while found := re.search(rf"\blet ({WORD}) = ({'|'.join(sorted(steps))}) in\s*", text):
+            text = text[: found.start()] + re.sub(rf"(?<![\w.'-]){re.escape(found[1])}(?![\w'-])", found[2], text[found.end() :])
+
+        def step(m: re.Match) -> str:
+            for label in (norm(m[2]), norm(m[2]).removesuffix("_lem")):
+                for (old, path), new in arms.items():
+                    if old == label and (m[3] or "").startswith("." + path):
+                        return f"{m[1]}.{new}{m[3][len(path) + 1 :]}"
+                if labels.get(label):
+                    return f"{m[1]}.{labels[label]}{m[3] or ''}"
+            return m[0]
+
+        text = re.sub(rf"(?<![\w.'-])({'|'.join(sorted(steps))})\.({WORD})((?:\.[\w'-]+)*)", step, text)
+        text = text.replace(".new.0", ".new.out").replace(".new.1", ".new.ends")
         return re.sub(rf"\btie\.({WORD})((?: invariant-[\w-]+)*(?: decreases-[\w-]+)*)", lambda m: "goal." + self.places.get(norm(m[1]), m[1]), text)
 
     def invariant(self, block: list[str]) -> list[str]:
@@ -111,7 +136,7 @@ class Function:
         clauses = [line for line in block[1:] if not line.startswith("unfolding ")]
         if re.fullmatch(rf"{re.escape(name)}[^=]*=\s*search rules\s*", "\n".join(clauses)):
             return []
-        new = self.goals.get(norm(old))
+        new = self.goals.get(norm(old)) or self.goals.get(norm(old).removeprefix("overflow_"))
         if new is None:
             self.left.append(f"goal {old} of {name}")
             return ["-- LEFT: " + old] + ["-- " + line for line in text.split("\n")]
@@ -119,7 +144,7 @@ class Function:
         text = "\n".join(block[1:])
         text = re.sub(rf"(?m)^{re.escape(name)}(?![\w'-])", new, text)
         text = re.sub(rf"(?m)^({re.escape(new)}(?: {WORD})*?) κs(?= )", r"\1", text)
-        return out + [self.body(text), ""]
+        return out + [self.body(text, self.at.get(new)), ""]
 
     def places_of(self, block: list[str], known: dict[str, str]) -> list[str]:
         """The answers that the last declaration hands over: those that stand there and not under a name."""
@@ -153,12 +178,15 @@ class Function:
                 self.left.append(f"argument {k} of {len(arguments)}, goals {len(self.order)}: {one}")
                 out.append("-- LEFT: " + self.body(one))
             else:
-                out += [f"pub {new} : goal.{new}", f"{new} c = {self.body(found[2])}", ""]
+                out += [f"pub {new} : goal.{new}", f"{new} c = {self.body(found[2], self.at.get(new))}", ""]
         return out
 
     def turn(self, text: str) -> tuple[str, str]:
         comments, uses, invariants, answers = [], [], [], []
         for block in blocks(text):
+            if found := re.match(rf"abbrev ({WORD}) : tie\.{WORD}[^→]* → tie\.{WORD}[^→]*$", block[0]):
+                self.starts.append(found[1])
+                continue
             line = block[0]
             if line.startswith("--"):
                 if not re.match(r"-- src/.*:\d+:\d+$", line):

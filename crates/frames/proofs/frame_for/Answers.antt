@@ -1,0 +1,13 @@
+-- `frames::frame_for` meets its contract. Assumes nothing.
+use Rattle.frames.specs.Frame.{frame_of}
+use borrow.Author.Rules.{rules}
+use Rattle.frames.proofs.frame_for.Goals as goal
+
+pub returns-in-Right : goal.returns-in-Right
+returns-in-Right c = simp (c.in-Right.is, c.spare_width-rest.ensures)
+
+pub returns-in-Zeros : goal.returns-in-Zeros
+returns-in-Zeros c = simp (c.in-Zeros.is, c.spare_width-rest.ensures)
+
+pub returns-in-Left : goal.returns-in-Left
+returns-in-Left c = simp (c.in-Left.is, c.spare_width-rest.ensures)

@@ -1,0 +1,15 @@
+-- `utf8::largest` meets its contract. Assumes nothing.
+use Prim.Native.Nat.{ℕ, ◌+◌, ◌-◌, ◌≤◌, ◌<◌, max}
+use mathlib.Core.Path.{◌≡◌, sym, ap, ◌∙◌}
+use lib.ListN.{length, drop}
+use native.Mathlib.Omega.{arith}
+use Rattle.utf8.specs.Largest.{largest_of}
+use Rattle.utf8.proofs.Laws.{largest-more, largest-end}
+use borrow.Author.Rules.{rules}
+use Rattle.utf8.proofs.largest.Given as goal
+
+abbrev pub invariant-loop-i : goal.invariant-loop-i
+invariant-loop-i l = (l.i ≤ length l.s) × (max l.top (largest_of (drop l.i l.s)) ≡ largest_of l.s) × (l.top < 256)
+
+abbrev pub decreases-loop-i : goal.decreases-loop-i
+decreases-loop-i l = length l.s - l.i
