@@ -85,8 +85,12 @@ class Function:
                     arms.setdefault((norm(label), ".".join(path[0])), f"{arm[0]}.{field}")
         return labels, arms
 
+    @staticmethod
+    def forward(text: str, steps: set[str]) -> str:
+        """Today's answers name a step without the way back to it."""
+        return re.sub(rf"(?<![\w.'-])({'|'.join(sorted(steps))})(?:\.before)+(?![\w'-])", r"\1", text)
+
     def body(self, text: str, place: str | None = None) -> str:
-        text = re.sub(r"(?<=[\w')])\.before(?![\w'-])", "", text)
         if found := re.search(rf"\({WORD} : tie\.({WORD})", text):
             place = self.places.get(norm(found[1]), place)
         labels, arms = self.chain(place)
@@ -94,8 +98,10 @@ class Function:
             text = re.sub(rf"\({re.escape(name)} ({WORD})\)", r"\1", text)
             text = re.sub(rf"(?<![\w.'-]){re.escape(name)} ({WORD})", r"\1", text)
         steps = {"c"} | set(re.findall(rf"\(({WORD}) : tie\.", text))
+        text = self.forward(text, steps)
         while found := re.search(rf"\blet ({WORD}) = ({'|'.join(sorted(steps))}) in\s*", text):
             text = text[: found.start()] + re.sub(rf"(?<![\w.'-]){re.escape(found[1])}(?![\w'-])", found[2], text[found.end() :])
+            text = self.forward(text, steps)
 
         def step(m: re.Match) -> str:
             for label in (norm(m[2]), norm(m[2]).removesuffix("_lem")):
@@ -178,7 +184,8 @@ class Function:
                 self.left.append(f"argument {k} of {len(arguments)}, goals {len(self.order)}: {one}")
                 out.append("-- LEFT: " + self.body(one))
             else:
-                out += [f"pub {new} : goal.{new}", f"{new} c = {self.body(found[2], self.at.get(new))}", ""]
+                opened = [line for line in block[1:] if line.startswith("unfolding ")]
+                out += [f"pub {new} : goal.{new}", *opened, f"{new} c = {self.body(found[2], self.at.get(new))}", ""]
         return out
 
     def turn(self, text: str) -> tuple[str, str]:

@@ -18,7 +18,7 @@ returns c =
     let a = c.args in
     let f = a.f in
     let zeros : List ℕ = replicate f.zeros (code "0") in
-    wrote_three a.out.now (spaces f) (marks f.mark f.prefix) zeros _ _ _ _ _ _ _
+    wrote_three a.out.now (spaces f.before) (marks f.mark f.prefix) zeros _ _ _ _ _ _ _
     (wrote_fill _ _ _ _ _ c.write_fill-a.ensures)
     c.write_marks.ensures
     refl
@@ -34,7 +34,7 @@ pub slice_bounds-write_marks-start : goal.slice_bounds-write_marks-start
 slice_bounds-write_marks-start c = omega (arith, head_length c.args.f)
 
 pub write_marks-requires : goal.write_marks-requires
-write_marks-requires c = simp (length-take, length-drop) (omega (arith, head_length c.args.f))
+write_marks-requires c = simp (length-take, length-drop) (omega (arith, head_length (c).args.f))
 
 pub overflow_add-b : goal.overflow_add-b
 overflow_add-b c = omega (arith, head_length c.args.f)
@@ -46,7 +46,7 @@ pub slice_bounds-write_fill-start : goal.slice_bounds-write_fill-start
 slice_bounds-write_fill-start c = omega (arith, head_length c.args.f)
 
 pub write_fill-requires : goal.write_fill-requires
-write_fill-requires c = simp (length-take, length-drop) (omega (arith, head_length c.args.f))
+write_fill-requires c = simp (length-take, length-drop) (omega (arith, head_length (c).args.f))
 
 pub overflow_add-result : goal.overflow_add-result
 overflow_add-result c = omega (arith, head_length c.args.f)

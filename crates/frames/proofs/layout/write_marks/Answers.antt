@@ -25,7 +25,7 @@ pub slice_bounds-write_short-start : goal.slice_bounds-write_short-start
 slice_bounds-write_short-start c = omega (arith, marks-length c.args.mark c.args.prefix)
 
 pub write_short-requires : goal.write_short-requires
-write_short-requires c = simp (length-take, length-drop) (omega (arith, marks-length c.args.mark c.args.prefix))
+write_short-requires c = simp (length-take, length-drop) (omega (arith, marks-length (c).args.mark (c).args.prefix))
 
 pub overflow_add-result : goal.overflow_add-result
 overflow_add-result c = omega (arith, marks-length c.args.mark c.args.prefix)

@@ -26,7 +26,7 @@ pub slice_bounds-write_fill-start : goal.slice_bounds-write_fill-start
 slice_bounds-write_fill-start c = omega (arith, tail_length c.args.f)
 
 pub write_fill-requires : goal.write_fill-requires
-write_fill-requires c = simp (length-take, length-drop) (omega (arith, tail_length c.args.f))
+write_fill-requires c = simp (length-take, length-drop) (omega (arith, tail_length (c).args.f))
 
 pub overflow_add-result : goal.overflow_add-result
 overflow_add-result c = omega (arith, tail_length c.args.f)
