@@ -113,7 +113,7 @@ class Function:
             return m[0]
 
         text = re.sub(rf"(?<![\w.'-])({'|'.join(sorted(steps))})\.({WORD})((?:\.[\w'-]+)*)", step, text)
-        text = text.replace(".new.0", ".new.out").replace(".new.1", ".new.ends")
+        text = text.replace(".in_default.rest", ".in_default.in_default-own.rest").replace(".new.0", ".new.out").replace(".new.1", ".new.ends")
         return re.sub(rf"\btie\.({WORD})((?: invariant-[\w-]+)*(?: decreases-[\w-]+)*)", lambda m: "goal." + self.places.get(norm(m[1]), m[1]), text)
 
     def invariant(self, block: list[str]) -> list[str]:
@@ -139,8 +139,7 @@ class Function:
 
     def answer(self, block: list[str], old: str, name: str) -> list[str]:
         text = "\n".join(block)
-        clauses = [line for line in block[1:] if not line.startswith("unfolding ")]
-        if re.fullmatch(rf"{re.escape(name)}[^=]*=\s*search rules\s*", "\n".join(clauses)):
+        if re.fullmatch(rf"{re.escape(name)}[^=]*=\s*search rules\s*", "\n".join(block[1:])):
             return []
         new = self.goals.get(norm(old)) or self.goals.get(norm(old).removeprefix("overflow_"))
         if new is None:

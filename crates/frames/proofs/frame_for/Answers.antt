@@ -1,6 +1,5 @@
 -- `frames::frame_for` meets its contract. Assumes nothing.
 use Rattle.frames.specs.Frame.{frame_of}
-use borrow.Author.Rules.{rules}
 use Rattle.frames.proofs.frame_for.Goals as goal
 
 pub returns-in-Right : goal.returns-in-Right

@@ -1,7 +1,6 @@
 -- `frames::frame_len` meets its contract. Assumes nothing.
 use native.Mathlib.Omega.{arith}
 use Rattle.frames.proofs.Lengths.{marks-length, head_length, tail_length}
-use borrow.Author.Rules.{rules}
 use Rattle.frames.proofs.frame_len.Goals as goal
 
 pub returns : goal.returns

@@ -1,5 +1,4 @@
 -- `frames::is_bare` meets its contract. Assumes nothing.
-use borrow.Author.Rules.{rules}
 use Rattle.frames.proofs.is_bare.Goals as goal
 
 pub returns-in-NoMark : goal.returns-in-NoMark

@@ -2,7 +2,6 @@
 use native.Mathlib.Omega.{arith}
 use lib.ListN.{length-append}
 use Rattle.frames.specs.Frame.{spare}
-use borrow.Author.Rules.{rules}
 use Rattle.frames.proofs.spare_width.Goals as goal
 
 pub returns-then-whole-marks : goal.returns-then-whole-marks

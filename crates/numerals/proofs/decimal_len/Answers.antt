@@ -1,7 +1,6 @@
 -- `numerals::decimal_len` meets its contract. The loop's invariant: the places counted so far and those of the quotient are together the places of x.
 -- Assumes nothing.
-use Rattle.std.proofs.Common.{◌≡◌, ◌+◌, arith, rules}
-use Rattle.numerals.specs.Digits.{places}
+use Rattle.std.proofs.Common.{arith}
 use Rattle.numerals.proofs.Digits.{places_four, twenty_places}
 use Rattle.numerals.proofs.decimal_len.Goals as goal
 

@@ -1,8 +1,7 @@
 -- `numerals::decimal_len` meets its contract. The loop's invariant: the places counted so far and those of the quotient are together the places of x.
 -- Assumes nothing.
-use Rattle.std.proofs.Common.{◌≡◌, ◌+◌, arith, rules}
+use Rattle.std.proofs.Common.{◌≡◌, ◌+◌}
 use Rattle.numerals.specs.Digits.{places}
-use Rattle.numerals.proofs.Digits.{places_four, twenty_places}
 use Rattle.numerals.proofs.decimal_len.Given as goal
 
 abbrev pub invariant-loop-v : goal.invariant-loop-v

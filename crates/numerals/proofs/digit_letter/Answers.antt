@@ -1,7 +1,7 @@
 -- `numerals::digit_letter` meets its contract. In each case, small or capital, the gap is a number, so that all is linear in the digit and its quotient
 -- by ten; and the letter is that of a digit below ten, or from ten on. Assumes nothing.
 use native.Mathlib.Decide.{dec_lt}
-use Rattle.std.proofs.Common.{arith, rules, le-ltb, lt-ltb}
+use Rattle.std.proofs.Common.{arith, le-ltb, lt-ltb}
 use borrow.Table.Steps.{cases}
 use Rattle.numerals.specs.Digits.{letter_of}
 use Rattle.numerals.proofs.digit_letter.Goals as goal

@@ -1,5 +1,4 @@
 -- `numerals::digits_len` meets its contract. Assumes nothing.
-use Rattle.std.proofs.Common.{rules}
 use Rattle.numerals.proofs.digits_len.Goals as goal
 
 pub returns-in-Decimal : goal.returns-in-Decimal

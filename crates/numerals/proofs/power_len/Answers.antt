@@ -1,5 +1,5 @@
 -- `numerals::power_len` meets its contract: the highest set bit says how many digits there are. Assumes nothing.
-use Rattle.std.proofs.Common.{◌^◌, sym, pos_of_ne-zero, arith, pow_pos, rules}
+use Rattle.std.proofs.Common.{◌^◌, sym, pos_of_ne-zero, arith, pow_pos}
 use lib.Count.{leading_le}
 use Rattle.numerals.proofs.Digits.{places-small, power_length}
 use Rattle.numerals.proofs.power_len.Goals as goal

@@ -1,5 +1,4 @@
 -- `numerals::write_digits` meets its contract. Assumes nothing.
-use Rattle.std.proofs.Common.{rules}
 use Rattle.numerals.proofs.write_digits.Goals as goal
 
 pub returns-in-Decimal : goal.returns-in-Decimal

@@ -1,9 +1,9 @@
 -- `numerals::write_places` meets its contract. The loop's invariant: the letters from place i on are stored, and v gives those before them.
 -- Assumes nothing.
-use Rattle.std.proofs.Common.{◌/◌, ◌≤◌, sym, refl, mod-lt, arith, rules}
+use Rattle.std.proofs.Common.{◌/◌, sym, refl, mod-lt, arith}
 use Rattle.numerals.specs.Digits.{digits_in, letters_of}
 use Rattle.numerals.proofs.Digits.{digit_byte, digit_next, digits_right, length_letters_in}
-use Rattle.writing.proofs.Backwards.{Written, written_none, written_turn, written_all}
+use Rattle.writing.proofs.Backwards.{written_none, written_turn, written_all}
 use Rattle.numerals.proofs.write_places.Goals as goal
 
 pub loop-i-init : goal.loop-i-init

@@ -1,11 +1,8 @@
 -- `utf8::follows_table` meets its contract. The loop's invariant: read up to i, the rest of the text decides. Assumes nothing.
-use Prim.Native.Nat.{◌≤◌, ◌-◌}
-use mathlib.Core.Logic.{⊎_elim}
 use native.Mathlib.Omega.{arith}
-use lib.ListN.{length}
-use Rattle.utf8.proofs.Utf8.{above, below, inside, ReadTo, read_none, at_end, at_lead, at_follower}
-use borrow.Author.Rules.{rules}
+use Rattle.utf8.proofs.Utf8.{above, below, inside, read_none, at_end, at_lead, at_follower}
 use Rattle.utf8.proofs.follows_table.Goals as goal
+use Rattle.utf8.proofs.follows_table.Goals.{then-need-eq0+in-Follow, else-need-eq0+else-b-low+else-high-b}
 
 pub loop-i-init : goal.loop-i-init
 loop-i-init c = (omega arith, read_none _)
@@ -29,12 +26,12 @@ pub loop-i-preserved : goal.loop-i-preserved
 loop-i-preserved c =
     let l = c.loop-i in (
       omega arith,
-      ⊎_elim
-          (λ w. simp (w.5, w.6, w.7)
-          (record { decides = simp (← w.1.ensures, w.3.given.1) at (at_lead l.invariant.1 (omega arith) w.0.taken) }))
-          (λ w. simp (w.3, w.4, w.5)
-          (record { decides = simp (inside l.low l.high _ w.1.left w.2.left) at (at_follower l.invariant.1 (omega arith) w.0.left) }))
-          c.if-need-eq0.branch,
+      elim c.if-need-eq0.branch [
+        | then-need-eq0+in-Follow w ↦ simp (w.need-is, w.low-is, w.high-is)
+            (record { decides = simp (← w.lead_of.ensures, w.in-Follow.is) at (at_lead l.invariant.1 (omega arith) w.if-need-eq0.true) })
+        | else-need-eq0+else-b-low+else-high-b w ↦ simp (w.need-is, w.low-is, w.high-is)
+            (record { decides = simp (inside l.low l.high _ w.if-b-low.false w.if-high-b.false) at (at_follower l.invariant.1 (omega arith) w.if-need-eq0.false) })
+      ],
     )
 
 pub returns : goal.returns

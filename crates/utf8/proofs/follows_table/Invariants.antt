@@ -1,10 +1,7 @@
 -- `utf8::follows_table` meets its contract. The loop's invariant: read up to i, the rest of the text decides. Assumes nothing.
 use Prim.Native.Nat.{◌≤◌, ◌-◌}
-use mathlib.Core.Logic.{⊎_elim}
-use native.Mathlib.Omega.{arith}
 use lib.ListN.{length}
-use Rattle.utf8.proofs.Utf8.{above, below, inside, ReadTo, read_none, at_end, at_lead, at_follower}
-use borrow.Author.Rules.{rules}
+use Rattle.utf8.proofs.Utf8.{ReadTo}
 use Rattle.utf8.proofs.follows_table.Given as goal
 
 abbrev pub invariant-loop-i : goal.invariant-loop-i

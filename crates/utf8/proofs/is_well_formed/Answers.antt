@@ -2,7 +2,6 @@
 use mathlib.Core.Path.{sym}
 use native.Mathlib.Omega.{arith}
 use Rattle.utf8.proofs.Laws.{ascii, below-ascii}
-use borrow.Author.Rules.{rules}
 use Rattle.utf8.proofs.is_well_formed.Goals as goal
 
 pub returns-then-largest-lt128 : goal.returns-then-largest-lt128

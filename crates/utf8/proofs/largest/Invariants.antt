@@ -1,11 +1,8 @@
 -- `utf8::largest` meets its contract. Assumes nothing.
-use Prim.Native.Nat.{ℕ, ◌+◌, ◌-◌, ◌≤◌, ◌<◌, max}
-use mathlib.Core.Path.{◌≡◌, sym, ap, ◌∙◌}
+use Prim.Native.Nat.{◌-◌, ◌≤◌, ◌<◌, max}
+use mathlib.Core.Path.{◌≡◌}
 use lib.ListN.{length, drop}
-use native.Mathlib.Omega.{arith}
 use Rattle.utf8.specs.Largest.{largest_of}
-use Rattle.utf8.proofs.Laws.{largest-more, largest-end}
-use borrow.Author.Rules.{rules}
 use Rattle.utf8.proofs.largest.Given as goal
 
 abbrev pub invariant-loop-i : goal.invariant-loop-i

@@ -1,7 +1,6 @@
 -- `utf8::lead_of` meets its contract. Assumes nothing.
 use mathlib.Core.Path.{sym, ◌∙◌}
 use native.Mathlib.Omega.{arith}
-use borrow.Author.Rules.{rules}
 use Rattle.utf8.proofs.Utf8.{lead_one, no_lead_below, lead_two}
 use Rattle.utf8.proofs.lead_of.Goals as goal
 

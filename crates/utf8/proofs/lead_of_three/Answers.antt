@@ -1,7 +1,6 @@
 -- `utf8::lead_of_three` meets its contract. Assumes nothing.
 use mathlib.Core.Path.{sym, ap, ◌∙◌}
 use native.Mathlib.Omega.{arith}
-use borrow.Author.Rules.{rules}
 use Rattle.utf8.specs.Utf8.{lead_of}
 use Rattle.utf8.proofs.Utf8.{lead_three}
 use Rattle.utf8.proofs.lead_of_three.Goals as goal

@@ -4,7 +4,6 @@ use mathlib.Core.Path.{◌≡◌}
 use native.Mathlib.Omega.{arith}
 use Rattle.words.specs.LittleEndian.{word_at}
 use Rattle.words.proofs.LittleEndian.{word_add, word_one}
-use borrow.Author.Rules.{rules}
 use Rattle.words.proofs.two.Goals as goal
 
 pub returns : goal.returns

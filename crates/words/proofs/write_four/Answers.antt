@@ -5,7 +5,6 @@ use native.Mathlib.Omega.{arith}
 use Rattle.writing.specs.Laid.{laid}
 use Rattle.writing.proofs.Laid.{laid_stores}
 use Rattle.words.proofs.LittleEndian.{four_bytes}
-use borrow.Author.Rules.{rules}
 use Rattle.words.proofs.write_four.Goals as goal
 
 pub bounds-out-1 : goal.bounds-out-1

@@ -1,15 +1,9 @@
 -- `words::write_fours` meets its contract. Assumes nothing.
-use Prim.Native.Nat.{ℕ, suc, ◌+◌, ◌-◌, ◌*◌, ◌≤◌, ◌<◌}
-use mathlib.Core.Path.{◌≡◌, refl, sym, ap, ◌∙◌}
-use mathlib.Core.List.{List}
-use lib.ListN.{length, get_or, take, length-take, length-drop}
-use lib.Seq.{take_all, length-take-le}
-use native.Mathlib.Omega.{arith}
+use Prim.Native.Nat.{◌-◌, ◌≤◌}
+use mathlib.Core.Path.{◌≡◌}
+use lib.ListN.{length, take}
 use Rattle.writing.specs.Laid.{laid}
-use Rattle.writing.proofs.Laid.{laid_none, laid_next, length-laid}
-use Rattle.words.specs.LittleEndian.{bytes_of, all_bytes}
-use Rattle.words.proofs.Fours.{bytes-length, bytes_next}
-use borrow.Author.Rules.{rules}
+use Rattle.words.specs.LittleEndian.{all_bytes}
 use Rattle.words.proofs.write_fours.Given as goal
 
 abbrev pub invariant-loop-k : goal.invariant-loop-k

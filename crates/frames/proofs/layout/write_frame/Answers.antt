@@ -5,7 +5,6 @@ use lib.ListN.{length}
 use borrow.Rule.Slice.PartMut.{put_mid}
 use Rattle.writing.proofs.Laid.{lent_back}
 use Rattle.frames.specs.Frame.{tail_text}
-use borrow.Author.Rules.{rules}
 use Rattle.frames.proofs.layout.write_frame.Goals as goal
 
 pub returns : goal.returns

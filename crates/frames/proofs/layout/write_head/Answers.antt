@@ -8,7 +8,6 @@ use native.Mathlib.Omega.{arith}
 use Rattle.writing.proofs.Chained.{wrote_fill, wrote_three}
 use Rattle.frames.specs.Frame.{marks, spaces, head_text}
 use Rattle.frames.proofs.Lengths.{head_length}
-use borrow.Author.Rules.{rules}
 use Rattle.frames.proofs.layout.write_head.Goals as goal
 
 -- the start, from the places before the spaces, and behind the spaces, mark and prefix, and the zeros

@@ -4,7 +4,6 @@ use native.Mathlib.Omega.{arith}
 use Rattle.writing.proofs.Chained.{wrote_two}
 use Rattle.frames.specs.Frame.{opening, prefix_text}
 use Rattle.frames.proofs.Lengths.{marks-length}
-use borrow.Author.Rules.{rules}
 use Rattle.frames.proofs.layout.write_marks.Goals as goal
 
 -- the start, from the places before the mark, behind it, and behind the prefix

@@ -4,7 +4,6 @@ use native.Mathlib.Omega.{arith}
 use Rattle.writing.proofs.Chained.{wrote_fill, wrote_two}
 use Rattle.frames.specs.Frame.{closing, spaces, tail_text}
 use Rattle.frames.proofs.Lengths.{tail_length}
-use borrow.Author.Rules.{rules}
 use Rattle.frames.proofs.layout.write_tail.Goals as goal
 
 -- the start, from the places before the closing mark, behind it, and behind the spaces

@@ -1,5 +1,5 @@
 -- `numerals::grouping::grouped_len` meets its contract: a comma for each three digits past the first three or fewer. Assumes nothing.
-use Rattle.std.proofs.Common.{arith, rules}
+use Rattle.std.proofs.Common.{arith}
 use Rattle.numerals.proofs.Digits.{places_pos, twenty_places}
 use Rattle.numerals.proofs.Commas.{length-grouped-decimal}
 use Rattle.numerals.proofs.grouping.grouped_len.Goals as goal

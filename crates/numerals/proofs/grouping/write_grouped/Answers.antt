@@ -1,12 +1,12 @@
 -- `numerals::grouping::write_grouped` meets its contract. The invariant: the bytes from place i on are stored, and v with the digits since the last comma
 -- gives those before them. Assumes nothing.
-use Rattle.std.proofs.Common.{ℕ, ◌+◌, ◌/◌, ◌≤◌, sym, ap, ◌∙◌, arith, rules, eq-eqb, ne_eqb}
+use Rattle.std.proofs.Common.{ℕ, ◌+◌, ◌/◌, sym, ap, ◌∙◌, arith, eq-eqb, ne_eqb}
 use Prim.Native.Char.{code}
 use Rattle.writing.proofs.FromRight.{from_right}
 use Rattle.numerals.specs.Digits.{decimal}
 use Rattle.numerals.specs.Grouping.{grouped}
 use Rattle.numerals.proofs.Commas.{group_byte, group_next, grouped_right}
-use Rattle.writing.proofs.Backwards.{Written, written_none, written_turn, written_all}
+use Rattle.writing.proofs.Backwards.{written_none, written_turn, written_all}
 use Rattle.numerals.proofs.grouping.write_grouped.Goals as goal
 
 pub loop-i-init : goal.loop-i-init

@@ -1,5 +1,4 @@
 -- `numerals::integers::integer_of` meets its contract. Assumes nothing.
-use Rattle.std.proofs.Common.{rules}
 use Rattle.numerals.proofs.integers.integer_of.Goals as goal
 
 pub returns-then-signed : goal.returns-then-signed

@@ -1,5 +1,5 @@
 -- `numerals::integers::low_bits` meets its contract: a shift of 64 or more would lose the bit, so that such a width leaves x as it is. Assumes nothing.
-use Rattle.std.proofs.Common.{ℕ, ◌%◌, ◌^◌, ◌<◌, sym, ap, subst, lt_of_lt_of_le, mod-eq_of_lt, arith, pow_pos, pow_mono, rules}
+use Rattle.std.proofs.Common.{ℕ, ◌%◌, ◌^◌, ◌<◌, sym, ap, subst, lt_of_lt_of_le, mod-eq_of_lt, arith, pow_pos, pow_mono}
 use Rattle.numerals.proofs.TwosComplement.{one_bit}
 use Rattle.numerals.proofs.integers.low_bits.Goals as goal
 

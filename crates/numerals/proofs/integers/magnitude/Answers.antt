@@ -1,5 +1,5 @@
 -- `numerals::integers::magnitude` meets its contract. Assumes nothing.
-use Rattle.std.proofs.Common.{sym, arith, rules}
+use Rattle.std.proofs.Common.{sym, arith}
 use Rattle.numerals.proofs.TwosComplement.{magnitude_low, magnitude_high}
 use Rattle.numerals.proofs.integers.magnitude.Goals as goal
 

@@ -5,7 +5,6 @@ use lib.ListN.{length, length-set}
 use native.Mathlib.Omega.{arith}
 use Rattle.writing.proofs.Laid.{laid_stores}
 use Rattle.utf8.proofs.ScalarValues.{one, two, three, four}
-use borrow.Author.Rules.{rules}
 use Rattle.utf8.proofs.scalars.write_scalar.Goals as goal
 
 -- room for the bytes of each range
