@@ -65,6 +65,7 @@ class Function:
             self.loops[norm(loop[0])] = (loop[1], variables, changed)
             self.loops[norm(loop[1])] = (loop[1], variables, changed)
         self.starts: list[str] = []
+        self.named: dict[str, str] = {}
         self.left: list[str] = []
 
     def chain(self, place: str | None) -> tuple[dict[str, str], dict[tuple[str, str], str]]:
@@ -94,9 +95,14 @@ class Function:
         if found := re.search(rf"\({WORD} : tie\.({WORD})", text):
             place = self.places.get(norm(found[1]), place)
         labels, arms = self.chain(place)
-        for name in self.starts:
-            text = re.sub(rf"\({re.escape(name)} ({WORD})\)", r"\1", text)
-            text = re.sub(rf"(?<![\w.'-]){re.escape(name)} ({WORD})", r"\1", text)
+        before = ""
+        while self.starts and before != text:
+            before = text
+            any_of = "|".join(re.escape(name) for name in sorted(self.starts, key=len, reverse=True))
+            text = re.sub(rf"\((?:{any_of}) ({WORD}(?:\.{WORD})*)\)", r"\1", text)
+            text = re.sub(rf"(?<![\w.'-])(?:{any_of}) ({WORD})", r"\1", text)
+            text = re.sub(rf"\(({WORD})\)", r"\1", text)
+            text = self.forward(text, {"c"})
         steps = {"c"} | set(re.findall(rf"\(({WORD}) : tie\.", text))
         text = self.forward(text, steps)
         while found := re.search(rf"\blet ({WORD}) = ({'|'.join(sorted(steps))}) in\s*", text):
@@ -113,7 +119,8 @@ class Function:
             return m[0]
 
         text = re.sub(rf"(?<![\w.'-])({'|'.join(sorted(steps))})\.({WORD})((?:\.[\w'-]+)*)", step, text)
-        text = text.replace(".in_default.rest", ".in_default.in_default-own.rest").replace(".new.0", ".new.out").replace(".new.1", ".new.ends")
+        text = re.sub(r"\(not-(?:true|false) [^ ()]+ (c\.if-not[^ ()]+\.(?:true|false))\)", r"\1", text)
+        text = text.replace(".last.", ".new.").replace("c.pre", "c.requires").replace(".in_default.rest", ".in_default.in_default-own.rest").replace(".new.0", ".new.out").replace(".new.1", ".new.ends")
         return re.sub(rf"\btie\.({WORD})((?: invariant-[\w-]+)*(?: decreases-[\w-]+)*)", lambda m: "goal." + self.places.get(norm(m[1]), m[1]), text)
 
     def invariant(self, block: list[str]) -> list[str]:
@@ -147,6 +154,7 @@ class Function:
             return ["-- LEFT: " + old] + ["-- " + line for line in text.split("\n")]
         out = [f"pub {new} : goal.{new}"]
         text = "\n".join(block[1:])
+        text = re.sub(rf"(?<=[ (]){WORD}(?= {WORD})", lambda m: self.named.get(m[0], m[0]), text)
         text = re.sub(rf"(?m)^{re.escape(name)}(?![\w'-])", new, text)
         text = re.sub(rf"(?m)^({re.escape(new)}(?: {WORD})*?) κs(?= )", r"\1", text)
         return out + [self.body(text, self.at.get(new)), ""]
@@ -175,7 +183,7 @@ class Function:
         out = []
         same = len(arguments) == len(self.order)
         for k, one in enumerate(arguments):
-            found = re.fullmatch(r"\(λ (c(?: κs)?)\. (.*)\)", one)
+            found = re.fullmatch(r"\(λ (c(?: [^\s.]+)*)\. (.*)\)", one)
             if not found or found[2] == "search rules":
                 continue
             new = self.order[k] if same else None
@@ -184,11 +192,14 @@ class Function:
                 out.append("-- LEFT: " + self.body(one))
             else:
                 opened = [line for line in block[1:] if line.startswith("unfolding ")]
-                out += [f"pub {new} : goal.{new}", *opened, f"{new} c = {self.body(found[2], self.at.get(new))}", ""]
+                out += [f"pub {new} : goal.{new}", *opened, f"{new} {found[1].replace(' κs', '')} = {self.body(found[2], self.at.get(new))}", ""]
         return out
 
     def turn(self, text: str) -> tuple[str, str]:
         comments, uses, invariants, answers = [], [], [], []
+        for name, need in re.findall(rf"(?m)^({WORD}) : tie\.Need-({WORD})", text):
+            if new := self.goals.get(norm(need)):
+                self.named[name] = new
         for block in blocks(text):
             if found := re.match(rf"abbrev ({WORD}) : tie\.{WORD}[^→]* → tie\.{WORD}[^→]*$", block[0]):
                 self.starts.append(found[1])
@@ -213,6 +224,13 @@ class Function:
                 answers += self.places_of(block, {})
             else:
                 answers += [self.body("\n".join(block)), ""]
+        last = []
+        for k, one in enumerate(answers):
+            if one.startswith("pub shape_of"):
+                end = next(n for n in range(k, len(answers)) if not answers[n])
+                last += answers[k : end + 1]
+                answers[k : end + 1] = [""] * (end + 1 - k)
+        answers += last
         head = "\n".join(comments + uses)
         goals = f"use Rattle.{self.crate}.proofs.{self.path}."
         one = head + "\n" + goals + "Given as goal\n\n" + "\n".join(invariants).rstrip() + "\n" if invariants else ""

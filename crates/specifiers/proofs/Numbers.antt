@@ -19,7 +19,7 @@ use Rattle.specifiers.specs.Params.{is_digit, leading_digits, number_taken, numb
 use Rattle.numerals.specs.declared.NumericParam.TheVariants.{FromArgument}
 use Rattle.specifiers.specs.declared.params.Number.{Number}
 use Rattle.specifiers.specs.declared.params.Number.TheVariants as N
-use Rattle.specifiers.specs.declared.params.Taken.TheVariants.{Param, TooLarge}
+use Rattle.specifiers.specs.declared.params.Taken.TheVariants.{Param}
 
 -- More digits never make a number smaller.
 pub number_grows : (v : ℕ) (ds : List ℕ) → v ≤ number_from 10 v ds

@@ -1,7 +1,6 @@
 -- `calendar::days_before` meets its contract. Assumes nothing.
 use native.Mathlib.Omega.{arith}
 use Rattle.calendar.proofs.Years.{days_before}
-use borrow.Author.Rules.{rules}
 use Rattle.calendar.proofs.days_before.Goals as goal
 
 pub returns : goal.returns

@@ -1,6 +1,5 @@
 -- `calendar::evened` meets its contract. Assumes nothing.
 use borrow.Author.Tests.{lt-ltb, le-ltb}
-use borrow.Author.Rules.{rules}
 use Rattle.calendar.proofs.evened.Goals as goal
 
 pub returns-then-day-lt60 : goal.returns-then-day-lt60

@@ -5,7 +5,6 @@ use Rattle.calendar.specs.Dates.{month_length, days_of}
 use Rattle.calendar.proofs.Estimate.{in_found_year, in_month}
 use Rattle.calendar.proofs.Finite.{longest}
 use Rattle.calendar.proofs.Epoch.{seconds_range, the_moment}
-use borrow.Author.Rules.{rules}
 use Rattle.calendar.proofs.moment_of.Goals as goal
 
 -- the day that was found lies in its year, and in its month

@@ -3,7 +3,6 @@ use Prim.Native.Nat.{◌<◌}
 use native.Mathlib.Omega.{arith}
 use Rattle.calendar.specs.Steps.{evened}
 use Rattle.calendar.proofs.Finite.{longest, evened-below, on_the_line}
-use borrow.Author.Rules.{rules}
 use Rattle.calendar.proofs.month_day.Goals as goal
 
 -- the day stays small

@@ -6,7 +6,6 @@ use native.Mathlib.Omega.{arith}
 use lib.IntN.{nat_abs}
 use Rattle.numerals.specs.Integers.{int_of, is_negative}
 use Rattle.calendar.proofs.Epoch.{magnitude_within, forward, back}
-use borrow.Author.Rules.{rules}
 use Rattle.calendar.proofs.seconds_of.Goals as goal
 
 -- the magnitude's bound, where the timestamp is negative

@@ -4,7 +4,6 @@ use mathlib.Core.Path.{◌≡◌, sym, ap}
 use native.Mathlib.Omega.{arith}
 use Rattle.calendar.specs.Dates.{days_of, year_length, year_day}
 use Rattle.calendar.proofs.Estimate.{not_behind, not_far, year_at}
-use borrow.Author.Rules.{rules}
 use Rattle.calendar.proofs.year_day.Goals as goal
 
 pub returns-then-next-day : goal.returns-then-next-day

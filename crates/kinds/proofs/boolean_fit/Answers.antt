@@ -1,5 +1,4 @@
 -- `kinds::boolean_fit` meets its contract. Assumes nothing.
-use borrow.Author.Rules.{rules}
 use Rattle.kinds.proofs.boolean_fit.Goals as goal
 
 pub returns-in-Boolean : goal.returns-in-Boolean

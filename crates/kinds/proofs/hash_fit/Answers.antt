@@ -1,5 +1,4 @@
 -- `kinds::hash_fit` meets its contract. Assumes nothing.
-use borrow.Author.Rules.{rules}
 use Rattle.kinds.proofs.hash_fit.Goals as goal
 
 pub returns-in-Integer : goal.returns-in-Integer

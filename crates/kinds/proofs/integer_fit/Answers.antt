@@ -1,5 +1,4 @@
 -- `kinds::integer_fit` meets its contract. Assumes nothing.
-use borrow.Author.Rules.{rules}
 use Rattle.kinds.proofs.integer_fit.Goals as goal
 
 pub returns-in-Integer : goal.returns-in-Integer

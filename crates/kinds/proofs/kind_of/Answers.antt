@@ -1,6 +1,5 @@
 -- `kinds::kind_of` meets its contract: an argument for each kind, and one for a byte that is none of them. Assumes nothing.
 use mathlib.Core.Path.{sym, ap, ◌∙◌}
-use borrow.Author.Rules.{rules}
 use borrow.Author.Tests.{ne_eqb}
 use Rattle.kinds.specs.Kinds.{kind_of}
 use Rattle.kinds.proofs.kind_of.Goals as goal

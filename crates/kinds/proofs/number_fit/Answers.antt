@@ -1,5 +1,4 @@
 -- `kinds::number_fit` meets its contract. Assumes nothing.
-use borrow.Author.Rules.{rules}
 use Rattle.kinds.proofs.number_fit.Goals as goal
 
 pub returns-in-Integer : goal.returns-in-Integer

@@ -1,5 +1,4 @@
 -- `kinds::string_fit` meets its contract. Assumes nothing.
-use borrow.Author.Rules.{rules}
 use Rattle.kinds.proofs.string_fit.Goals as goal
 
 pub returns-in-Integer : goal.returns-in-Integer

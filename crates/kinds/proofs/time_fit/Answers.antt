@@ -1,5 +1,4 @@
 -- `kinds::time_fit` meets its contract. Assumes nothing.
-use borrow.Author.Rules.{rules}
 use Rattle.kinds.proofs.time_fit.Goals as goal
 
 pub returns-in-Integer : goal.returns-in-Integer

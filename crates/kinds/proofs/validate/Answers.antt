@@ -1,5 +1,4 @@
 -- `kinds::validate` meets its contract. Assumes nothing.
-use borrow.Author.Rules.{rules}
 use Rattle.kinds.proofs.validate.Goals as goal
 
 pub returns-in-Boolean : goal.returns-in-Boolean
