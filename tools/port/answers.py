@@ -120,7 +120,7 @@ class Function:
 
         text = re.sub(rf"(?<![\w.'-])({'|'.join(sorted(steps))})\.({WORD})((?:\.[\w'-]+)*)", step, text)
         text = re.sub(r"\(not-(?:true|false) [^ ()]+ (c\.if-not[^ ()]+\.(?:true|false))\)", r"\1", text)
-        text = text.replace(".last.", ".new.").replace("c.pre", "c.requires").replace(".in_default.rest", ".in_default.in_default-own.rest").replace(".new.0", ".new.out").replace(".new.1", ".new.ends")
+        text = text.replace(".last.", ".new.").replace("c.pre", "c.requires").replace(".type-inv", ".type_inv").replace(".in_default.rest", ".in_default.in_default-own.rest").replace(".new.0", ".new.out").replace(".new.1", ".new.ends")
         return re.sub(rf"\btie\.({WORD})((?: invariant-[\w-]+)*(?: decreases-[\w-]+)*)", lambda m: "goal." + self.places.get(norm(m[1]), m[1]), text)
 
     def invariant(self, block: list[str]) -> list[str]:

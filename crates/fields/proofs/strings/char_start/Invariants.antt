@@ -1,0 +1,15 @@
+-- `fields::strings::char_start` meets its contract. The loop's invariant: the cut falls back from i to where it falls back from n. Assumes nothing.
+use Prim.Native.Nat.{ℕ, ◌≤◌}
+use mathlib.Core.Path.{◌≡◌, refl, sym, ap, ◌∙◌}
+use lib.ListN.{get_or}
+use native.Mathlib.Omega.{arith}
+use Rattle.fields.specs.Cut.{back_to}
+use Rattle.fields.proofs.Cuts.{back_start, back_inside, starts_below, starts_above, goes_on}
+use borrow.Author.Rules.{rules}
+use Rattle.fields.proofs.strings.char_start.Given as goal
+
+abbrev pub invariant-loop-i : goal.invariant-loop-i
+invariant-loop-i l = (l.i ≤ l.n) × (back_to l.i l.s ≡ back_to l.n l.s)
+
+abbrev pub decreases-loop-i : goal.decreases-loop-i
+decreases-loop-i l = l.i

@@ -1,0 +1,6 @@
+-- `numbers::float_mark` meets its contract. Assumes nothing.
+use borrow.Author.Rules.{rules}
+use Rattle.numbers.proofs.float_mark.Goals as goal
+
+pub returns : goal.returns
+returns c = simp c.if-negative.false c.sign_mark.ensures

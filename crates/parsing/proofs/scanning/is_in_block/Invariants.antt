@@ -1,0 +1,18 @@
+-- `parsing::scanning::is_in_block` meets its contract. The loop's invariant: found says whether a `%` is among the first i bytes. Assumes nothing.
+use Prim.Native.Nat.{◌-◌, ◌≤◌}
+use mathlib.Core.Path.{◌≡◌, sym, ap, ◌∙◌}
+use mathlib.Core.Logic.{⊎_elim}
+use lib.Dec.{ltb}
+use lib.ListN.{drop}
+use native.Mathlib.Omega.{arith}
+use borrow.Author.Tests.{le-ltb}
+use Rattle.parsing.specs.Texts.{text_length}
+use Rattle.parsing.proofs.Blocks.{block_percent, block_more}
+use borrow.Author.Rules.{rules}
+use Rattle.parsing.proofs.scanning.is_in_block.Given as goal
+
+abbrev pub invariant-loop-i : goal.invariant-loop-i
+invariant-loop-i l = (l.i ≤ 32) × (l.found ≡ ltb (text_length (drop l.at l.text)) l.i)
+
+abbrev pub decreases-loop-i : goal.decreases-loop-i
+decreases-loop-i l = 32 - l.i
