@@ -1,0 +1,60 @@
+-- `elements::format_char` meets its contract. Assumes nothing.
+use Prim.Native.Nat.{ℕ, ◌≤◌}
+use mathlib.Core.Bool.{Bool, true}
+use mathlib.Core.Path.{◌≡◌, sym, ap, ◌∙◌}
+use lib.IntN.{ℤ, nat_abs}
+use lib.ListN.{length-take}
+use lib.Seq.{length-take-le}
+use native.Mathlib.Omega.{arith}
+use Rattle.numerals.specs.Integers.{integer_of, is_negative}
+use Rattle.numerals.specs.declared.integers.SignMagnitude.{SignMagnitude}
+use Rattle.utf8.proofs.ScalarValues.{scalar_length}
+use Rattle.writing.proofs.Laid.{wrote_start}
+use Rattle.elements.proofs.Characters.{scalar_within}
+use Rattle.elements.proofs.Shown.{sized_text, sized_stop}
+use Rattle.elements.proofs.format_char.Goals as goal
+
+-- the sign and the magnitude that were read are the integer's
+sign : (z : ℤ) (n : SignMagnitude) → n ≡ record { negative = is_negative z; magnitude = nat_abs z } → is_negative z ≡ n.negative
+sign z n e = sym (ap (λ (m : SignMagnitude). m.negative) e)
+
+size : (z : ℤ) (n : SignMagnitude) → n ≡ record { negative = is_negative z; magnitude = nat_abs z } → nat_abs z ≡ n.magnitude
+size z n e = sym (ap (λ (m : SignMagnitude). m.magnitude) e)
+
+pub returns-then-n : goal.returns-then-n
+returns-then-n c =
+    let a = c.args in
+    sized_stop a.out.now _ 16 (simp (sign (integer_of a.signed a.value) c.integer_of-n.result c.integer_of-n.ensures, c.if-n.true))
+
+pub write_scalar-len-requires : goal.write_scalar-len-requires
+write_scalar-len-requires c =
+    let n = c.integer_of-n.result.magnitude in
+    (scalar_within n (sym c.is_scalar.ensures ∙ c.if-is_scalar.true), scalar_length n)
+
+pub slice_bounds-buffer-end : goal.slice_bounds-buffer-end
+slice_bounds-buffer-end c = omega (arith, c.write_scalar-len.ensures.0, scalar_length c.integer_of-n.result.magnitude)
+
+pub slice_bounds-put_padded-end : goal.slice_bounds-put_padded-end
+slice_bounds-put_padded-end c =
+    sym (length-take-le _ _ (omega (arith, c.write_scalar-len.ensures.0, scalar_length c.integer_of-n.result.magnitude)))
+
+pub put_padded-requires : goal.put_padded-requires
+put_padded-requires c = simp length-take (omega (arith, c.write_scalar-len.ensures.0, scalar_length c.integer_of-n.result.magnitude))
+
+pub returns-then-is_scalar : goal.returns-then-is_scalar
+returns-then-is_scalar c =
+    let a = c.args in
+    let z = integer_of a.signed a.value in
+    let n = c.integer_of-n.result in
+    let e = c.integer_of-n.ensures in
+    let text = wrote_start _ _ _ _ c.write_scalar-len.ensures in
+    sized_text a.out.now _ _ _ _
+    (simp (sign z n e, c.if-n.false, size z n e, ← c.is_scalar.ensures, c.if-is_scalar.true)) (rw text at c.put_padded.ensures)
+
+pub returns : goal.returns
+returns c =
+    let a = c.args in
+    let z = integer_of a.signed a.value in
+    let n = c.integer_of-n.result in
+    let e = c.integer_of-n.ensures in
+    sized_stop a.out.now _ 16 (simp (sign z n e, c.if-n.false, size z n e, ← c.is_scalar.ensures, c.if-is_scalar.false))
