@@ -1,0 +1,12 @@
+-- `live::empty` meets its contract. Assumes nothing.
+use Rattle.std.proofs.Common.{◌≡◌, ◌-◌, ◌≤◌, length, sym, refl, ◌∙◌, arith, length-set, get_or-set_same, rules}
+use Rattle.live.proofs.Joining.{emptied}
+use Rattle.live.specs.Steps.{Stored}
+use Rattle.live.proofs.Stores.{stored_none, stored_more}
+use Rattle.live.proofs.empty.Given as goal
+
+abbrev pub invariant-loop-k : goal.invariant-loop-k
+invariant-loop-k l = (l.k ≤ 512) × (length l.list ≡ 66177) × Stored 129 l.k (λ _. 0) l.initial.list l.list
+
+abbrev pub decreases-loop-k : goal.decreases-loop-k
+decreases-loop-k l = 512 - l.k
