@@ -1,0 +1,11 @@
+-- `panel::panel_print` meets its contract. Assumes nothing.
+use native.Mathlib.Omega.{arith}
+use Rattle.panel.proofs.Slots.{prints}
+use borrow.Author.Rules.{rules}
+use Rattle.panel.proofs.panel_print.Goals as goal
+
+pub returns : goal.returns
+returns c =
+    let a = c.args in
+    prints a.fmt.now a.row.now a.out.now a.ends.now _ _ _ c.print_staged.ensures
+    (λ i. omega (arith, c.shared_slice_known-2-1.given i)) _ c.print_answer.ensures

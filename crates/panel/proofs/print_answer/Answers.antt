@@ -1,0 +1,11 @@
+-- `panel::print_answer` meets its contract. Assumes nothing.
+use mathlib.Core.Path.{sym, ap}
+use Rattle.panel.specs.Entries.{print_answer}
+use borrow.Author.Rules.{rules}
+use Rattle.panel.proofs.print_answer.Goals as goal
+
+pub returns-in-Accepted : goal.returns-in-Accepted
+returns-in-Accepted c = sym (ap print_answer c.in-Accepted.is)
+
+pub returns-in-Refused : goal.returns-in-Refused
+returns-in-Refused c = sym (ap print_answer c.in-Refused.is)
