@@ -22,14 +22,14 @@ returns-then-s-i-gt191 c =
     let l = c.loop-i in
     let s = c.args.s.now in
     let b = get_or s l.i 0 in
-    sym (back_start s l.i (omega arith) (starts_above b c.if-s-i-lt128.false c.if-s-i-gt191.true)) ∙ l.invariant.1
+    sym (back_start s l.i (omega arith) (starts_above b c.if-s-i-lt128.false (omega arith))) ∙ l.invariant.1
 
 pub loop-i-preserved : goal.loop-i-preserved
 loop-i-preserved c =
     let l = c.loop-i in
     let s = c.args.s.now in
     let b = get_or s l.i 0 in
-    (omega arith, sym (back_inside s l.i (omega arith) (goes_on b c.if-s-i-lt128.false c.if-s-i-gt191.false)) ∙ l.invariant.1)
+    (omega arith, sym (back_inside s l.i (omega arith) (goes_on b c.if-s-i-lt128.false (omega arith))) ∙ l.invariant.1)
 
 pub returns : goal.returns
 unfolding back_to
