@@ -1,10 +1,10 @@
 #!/usr/bin/env bash
 # Builds the examples, the guard test and the test of lists against the library, and runs them; where valgrind is at hand, also counts.sh.
 # Usage: panel/test.sh [LIBRARY]
-# LIBRARY is target/staticlib/libpanel.a of the repository if not given. Products go to target/panel.
+# LIBRARY is crates/panel/out/libpanel.a of the repository if not given. Products go to target/panel.
 set -eu
 root=$(cd "$(dirname "$0")/.." && pwd)
-lib=$(realpath "${1:-$root/target/staticlib/libpanel.a}")
+lib=$(realpath "${1:-$root/crates/panel/out/libpanel.a}")
 cd "$root"
 if [ ! -f "$lib" ]; then
     echo "no library: $lib" >&2

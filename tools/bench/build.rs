@@ -1,4 +1,4 @@
-//! Compiles calls.c and calls_lists.c and links them with the library named by PANEL, by default `target/staticlib/libpanel.a` of the repository, as many
+//! Compiles calls.c and calls_lists.c and links them with the library named by PANEL, by default `crates/panel/out/libpanel.a` of the repository, as many
 //! bytes further behind as PAD says. Where {fmt} is installed, calls_fmt.cpp is compiled and linked too, and `has_fmt` is set.
 
 use std::path::{Path, PathBuf};
@@ -10,7 +10,7 @@ fn main() {
     let header = here.join("../../panel");
     let library = match env::var_os("PANEL") {
         Some(file) if !file.is_empty() => PathBuf::from(file),
-        _ => here.join("../../target/staticlib/libpanel.a"),
+        _ => here.join("../../crates/panel/out/libpanel.a"),
     };
     assert!(fs::metadata(&library).is_ok(), "{}: no such library; PANEL names it", library.display());
     let folder = PathBuf::from(env::var_os("OUT_DIR").expect("set by cargo"));

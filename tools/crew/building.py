@@ -2,7 +2,6 @@
 
 import fcntl
 import os
-import re
 import shutil
 import subprocess
 import time
@@ -13,53 +12,47 @@ from progress import Progress
 
 
 def crates_to_prove():
-    """How many crates the library is made of: panel, and what it needs at one or more removes."""
+    """The crates that the library is made of, each behind those that it names: what panel needs at one or more removes, and last panel."""
     with open(os.path.join(ROOT, "crates.txt"), encoding="utf-8") as file:
         lines = [line.partition("#")[0].partition(":") for line in file]
-    needs = {name.strip(): words.split() for name, colon, words in lines if colon}
-    found, left = set(), ["panel"]
-    while left:
-        name = left.pop()
-        if name not in found:
-            found.add(name)
-            left += needs.get(name, [])
-    return len([name for name in found if name == "panel" or os.path.isdir(os.path.join(ROOT, "crates", name))])
+    needs = {words.split()[0]: names.split() for words, colon, names in lines if colon}
+    found = []
+
+    def visit(name):
+        if name in needs and name not in found:  # what has no line is the toolchain's
+            for below in needs[name]:
+                visit(below)
+            found.append(name)
+
+    visit("panel")
+    return found
 
 
-def run_step(words, on_line):
-    """Runs a command of the repository; `on_line` sees each line that it says."""
-    said = []
+def run_step(words, folder=""):
+    """Runs a command in the repository's folder or one below."""
     try:
-        with subprocess.Popen(words, cwd=ROOT, stdout=subprocess.PIPE, stderr=subprocess.STDOUT, text=True, errors="replace") as process:
-            for line in process.stdout:
-                said.append(line.rstrip())
-                on_line(line)
+        done = subprocess.run(words, cwd=os.path.join(ROOT, folder), stdout=subprocess.PIPE, stderr=subprocess.STDOUT, text=True, errors="replace", check=False)
     except OSError as error:
         raise BadInput(f"the library is not built: {words[0]}: {error.strerror}") from error
-    if process.returncode != 0:
-        raise BadInput(f"the library could not be built; `{' '.join(words)}` said", said[-12:])
+    if done.returncode != 0:
+        where = f" in {folder}" if folder else ""
+        raise BadInput(f"the library could not be built; `{' '.join(words)}`{where} said", done.stdout.splitlines()[-12:])
 
 
 def build(why):
-    """Proves and builds the library, and says how far it is."""
+    """Proves and builds the library, crate after crate, and says how far it is."""
     for tool in ("rt", "gcc"):
         if not shutil.which(tool):
             raise BadInput(f"the library {why}, and `{tool}` is not on this machine to build it")
     tell("line", f"the library {why}: proving and building it, which takes some minutes")
-    total = crates_to_prove()
-    proved = set()
+    crates = crates_to_prove()
     progress = Progress()
-
-    def on_line(line):
-        found = re.match(r"rt: ([a-z0-9_]+) proved", line)
-        if found:
-            proved.add(found.group(1))
-            last = "; now panel, which is compiled too" if len(proved) == total - 1 else ""
-            progress.show(f"line: proved {len(proved)} of {total}, {found.group(1)}; {time.monotonic() - progress.begun:.0f} s{last}")
-
     try:
-        run_step(["rt", "staticlib", "panel"], on_line)
-        run_step(["panel/shared.sh"], lambda line: None)
+        for number, name in enumerate(crates, 1):
+            run_step(["rt", "lib"], f"crates/{name}")
+            last = "; now panel, which is compiled too" if number == len(crates) - 1 else ""
+            progress.show(f"line: proved {number} of {len(crates)}, {name}; {time.monotonic() - progress.begun:.0f} s{last}")
+        run_step(["panel/shared.sh"])
     finally:
         progress.end()
     tell("line", "the library is built")

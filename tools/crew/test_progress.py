@@ -43,16 +43,16 @@ def lines_left(said):
 
 
 class Building(unittest.TestCase):
-    """The command in a folder where the library is not built, with a stand-in for `rt`."""
+    """The command in a folder of two crates where the library is not built, with a stand-in for `rt`."""
 
     def setUp(self):
         self.folder = self.enterContext(tempfile.TemporaryDirectory())
         for name in ("crew", "pack"):
             shutil.copytree(os.path.join(TOOLS, name), self.path("tools", name))
         shutil.copy(os.path.join(TOOLS, "line"), self.path("tools"))
-        shutil.copy(os.path.join(ROOT, "crates.txt"), self.folder)
-        for name in ("crates/words/src", "panel", "bin"):
+        for name in ("crates/words/src", "crates/panel/src", "panel", "bin"):
             os.makedirs(self.path(name))
+        self.list_crates("# Of a library, log is the toolchain's.\nwords: log\npanel staticlib: words log # the library\n")
         self.script("panel/shared.sh", f"mkdir -p target/panel; cp {ROOT}/target/panel/libpanel.so target/panel/")
         self.words = [self.path("tools", "line"), "%d", "int8=7"]
         self.env = {"PATH": self.path("bin") + ":/usr/bin:/bin"}
@@ -65,6 +65,15 @@ class Building(unittest.TestCase):
             file.write(f"#!/bin/sh\n{text}\n")
         os.chmod(self.path(name), 0o755)
 
+    def list_crates(self, text):
+        with open(self.path("crates.txt"), "w", encoding="utf-8") as file:
+            file.write(text)
+
+    def logged(self):
+        """What stands in the file to which a stand-in for `rt` adds lines."""
+        with open(self.path("log"), encoding="utf-8") as file:
+            return file.read().splitlines()
+
     def make_all_old(self):
         """Gives every file one old time, so that the next file written is newer however coarse the clock of files is."""
         for folder, _, names in os.walk(self.folder):
@@ -76,12 +85,13 @@ class Building(unittest.TestCase):
         return done.returncode, done.stdout, done.stderr.decode()
 
     def test_built_once(self):
-        self.script("bin/rt", "echo 'rt: words proved (3 s)'")
+        self.script("bin/rt", 'echo "$* in $(basename "$PWD")" >> ../../log')
         status, out, said = self.run_line()
         self.assertEqual((status, out), (0, b"7\n"))
-        self.assertEqual([line[:41] for line in said.splitlines()],
-                         ["line: the library is not built yet: provi", "line: proved 1 of 2, words; 0 s; now pane", "line: the library is built"])
+        self.assertEqual([line[:33] for line in said.splitlines()],
+                         ["line: the library is not built ye", "line: proved 1 of 2, words; 0 s; ", "line: proved 2 of 2, panel; 0 s", "line: the library is built"])
         self.assertEqual(self.run_line(), (0, b"7\n", ""))
+        self.assertEqual(self.logged(), ["lib in words", "lib in panel"])
         for source in ("crates/words/src/lib.rt", "tools/crew/rows.c"):
             self.make_all_old()
             self.assertEqual(self.run_line(), (0, b"7\n", ""))
@@ -92,14 +102,28 @@ class Building(unittest.TestCase):
             file.write("no library")
         self.assertIn("line: the library cannot be loaded", self.run_line()[2])
 
+    def test_crates_of_the_repository(self):
+        with open(os.path.join(ROOT, "crates.txt"), encoding="utf-8") as file:
+            text = file.read()
+        self.list_crates(text)
+        needs = dict(re.findall(r"(?m)^(\w+)[^:#\n]*:([^#\n]*)", text))
+        for name in needs:
+            os.makedirs(self.path("crates", name, "src"), exist_ok=True)
+        self.script("bin/rt", 'basename "$PWD" >> ../../log')
+        self.assertEqual(self.run_line()[:2], (0, b"7\n"))
+        built = self.logged()
+        self.assertEqual((len(built), built[-1]), (len(set(built)), "panel"))
+        self.assertFalse({"sheet", "vectors"} & set(built), built)
+        for at, name in enumerate(built):
+            self.assertLessEqual(set(needs[name].split()) & set(needs), set(built[:at]), name)
+
     def test_calls_at_the_same_time(self):
-        self.script("bin/rt", "echo built >> log; sleep 1; echo 'rt: words proved (3 s)'")
+        self.script("bin/rt", 'basename "$PWD" >> ../../log; sleep 1')
         calls = [subprocess.Popen(self.words, stdout=subprocess.PIPE, stderr=subprocess.PIPE, env=self.env) for _ in range(2)]
         said = [call.communicate() for call in calls]
         self.assertEqual([out for out, _ in said], [b"7\n"] * 2)
         self.assertIn(b"line: another call is building the library; waiting for it\n", [text for _, text in said])
-        with open(self.path("log"), encoding="utf-8") as file:
-            self.assertEqual(file.read(), "built\n")
+        self.assertEqual(self.logged(), ["words", "panel"])
 
     def test_not_to_be_built(self):
         status, out, said = self.run_line()
@@ -108,7 +132,7 @@ class Building(unittest.TestCase):
         self.script("bin/rt", "echo words: not proved; exit 1")
         status, out, said = self.run_line()
         self.assertEqual((status, out), (2, b""))
-        self.assertTrue(said.endswith("line: the library could not be built; `rt staticlib panel` said\nwords: not proved\n"), said)
+        self.assertTrue(said.endswith("line: the library could not be built; `rt lib` in crates/words said\nwords: not proved\n"), said)
 
     def test_a_folder_that_cannot_be_written(self):
         self.script("target", "a file in the folder's place")
@@ -122,12 +146,12 @@ class Building(unittest.TestCase):
 
     def test_on_a_terminal_progress_is_written_over(self):
         begun = "line: the library is not built yet: proving and building it, which takes some minutes"
-        self.script("bin/rt", "echo 'rt: words proved (3 s)'; exit 1")
+        self.script("bin/rt", "echo 'fn words::put: not proved'; exit 1")
         process, terminal = on_terminal(self.words, env=self.env)
         self.assertEqual(lines_left(all_of(terminal)),
-                         [begun, "line: the library could not be built; `rt staticlib panel` said", "rt: words proved (3 s)", ""])
+                         [begun, "line: the library could not be built; `rt lib` in crates/words said", "fn words::put: not proved", ""])
         self.assertEqual((process.communicate()[0], process.returncode), (b"", 2))
-        self.script("bin/rt", "echo 'rt: words proved (3 s)'; echo 'rt: panel proved (4 s)'")
+        self.script("bin/rt", "echo logic=proved")
         process, terminal = on_terminal(self.words, env=self.env)
         said = all_of(terminal)
         self.assertEqual((process.communicate()[0], process.returncode), (b"7\n", 0))

@@ -41,7 +41,7 @@ def c_time(folder, records):
     rows, lengths = Rows([KINDS[name] for name in COLUMNS]).pack(list(zip(*records)), len(records))
     ends = list(itertools.accumulate(lengths))
     program = os.path.join(folder, "time_rows")
-    subprocess.run(["gcc", "-O2", "-Wall", "-Wextra", "-Werror", f"-I{ROOT}/panel", f"{HERE}/time_rows.c", f"{ROOT}/target/staticlib/libpanel.a",
+    subprocess.run(["gcc", "-O2", "-Wall", "-Wextra", "-Werror", f"-I{ROOT}/panel", f"{HERE}/time_rows.c", f"{ROOT}/crates/panel/out/libpanel.a",
                     "-o", program], check=True)
     data = b"".join(length.to_bytes(4, "little") + rows[end - length:end] for length, end in zip(lengths, ends))
     return min(float(subprocess.run([program, FORMAT], input=data, stdout=subprocess.PIPE, check=True).stdout) for _ in range(RUNS))

@@ -30,11 +30,11 @@ What cannot be packed is told on standard error, with exit status 2, and nothing
 
 Examples:
 
-  pack.py 'gate %d %s' int8=7 text=north | target/bin/sheet
-  pack.py '%05d %x %a' int32=-5 int8=-1 f64=0x1.8p3 | target/bin/sheet
-  pack.py '%b %d %.1a' bool=true int32=null f64=bits:0x0000000000000001 | target/bin/sheet
-  pack.py '%tF %<tT' time=2026-11-15T12:30:00.25Z | target/bin/sheet
-  pack.py --format-file heading.txt text='a=b' | target/bin/sheet
+  pack.py 'gate %d %s' int8=7 text=north | crates/sheet/out/sheet
+  pack.py '%05d %x %a' int32=-5 int8=-1 f64=0x1.8p3 | crates/sheet/out/sheet
+  pack.py '%b %d %.1a' bool=true int32=null f64=bits:0x0000000000000001 | crates/sheet/out/sheet
+  pack.py '%tF %<tT' time=2026-11-15T12:30:00.25Z | crates/sheet/out/sheet
+  pack.py --format-file heading.txt text='a=b' | crates/sheet/out/sheet
 """
 
 MOST_FORMAT = 65535

@@ -1,7 +1,7 @@
 #!/usr/bin/env python3
 """Runs the program `sheet` on the cases of cases.txt and compares what it writes, byte for byte.
 
-Run: python3 tools/pack/run_sheet_cases.py target/bin/sheet [CASES]. The last line is `N passed, M failed`; the exit code is 0 where none failed.
+Run: python3 tools/pack/run_sheet_cases.py crates/sheet/out/sheet [CASES]. The last line is `N passed, M failed`; the exit code is 0 where none failed.
 
 A case is a line `pack WORDS => OUTPUT` or `raw BYTES => OUTPUT`: the input is what pack.py makes of the words, or the bytes themselves. Words are
 split as a shell does, with single quotes. In words, bytes and output `\\n`, `\\\\` and `\\xNN` stand for a byte, `{TEXT*N}` for N times TEXT, and

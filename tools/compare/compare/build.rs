@@ -1,4 +1,4 @@
-//! Links the library named by PANEL, or `target/staticlib/libpanel.a` of the repository, where it exists.
+//! Links the library named by PANEL, or `crates/panel/out/libpanel.a` of the repository, where it exists.
 
 use std::env;
 use std::path::{Path, PathBuf};
@@ -18,6 +18,6 @@ fn library() -> PathBuf {
     match env::var_os("PANEL") {
         Some(file) if !file.is_empty() => file.into(),
         _ => Path::new(&env::var_os("CARGO_MANIFEST_DIR").expect("set by cargo"))
-            .join("../../../target/staticlib/libpanel.a"),
+            .join("../../../crates/panel/out/libpanel.a"),
     }
 }
