@@ -13,7 +13,6 @@ use Rattle.kinds.specs.Kinds.{kind_in, fit_of}
 use Rattle.specifiers.specs.Flags.{flags_of}
 use Rattle.specifiers.specs.Specifier.{begins_with, specifier_at}
 use Rattle.specifiers.specs.declared.Element.{Element}
-use Rattle.specifiers.specs.declared.LetterTaken.TheVariants as L
 use Rattle.specifiers.specs.declared.Specifier.TheVariants as S
 use Rattle.parsing.specs.Texts.{text_length}
 use Rattle.parsing.specs.Pieces.{passed, after_specifier, piece_at}

@@ -3,7 +3,6 @@ use Rattle.std.proofs.Common.{◌≡◌, ℕ, ◌+◌, ◌<◌, ◌≤◌, min, 
 use borrow.Author.Tests.{lt-leb}
 use Rattle.refusals.specs.Limits.{most_gates, most_pieces}
 use Rattle.outcomes.specs.Printed.{measured}
-use Rattle.outcomes.specs.declared.Outcome.{Outcome}
 use Rattle.outcomes.specs.declared.Outcome.TheVariants as O
 use Rattle.causes.specs.Calls.{measuring, of_outcome}
 use Rattle.causes.proofs.Causes.{number_in_table}

@@ -2,7 +2,7 @@
 use mathlib.Core.Path.{◌≡◌, refl, sym, ap, subst, ◌∙◌}
 use mathlib.Core.Bool.{Bool, true, false}
 use mathlib.Core.List.{List, [], ◌∷◌, ◌++◌, append_assoc, append-nil}
-use Prim.Native.Nat.{ℕ, ◌+◌, ◌-◌, ◌≤◌, ◌<◌}
+use Prim.Native.Nat.{ℕ, ◌-◌, ◌≤◌, ◌<◌}
 use Prim.Native.Char.{code}
 use native.Mathlib.Omega.{arith}
 use lib.ListN.{length, get_or, length-append}
@@ -10,7 +10,6 @@ use lib.Seq.{get_or_at}
 use Rattle.writing.specs.Text.{has}
 use Rattle.kinds.specs.Kinds.{unmarked, is_known}
 use Rattle.kinds.specs.declared.letters.ConversionType.{ConversionType}
-use Rattle.kinds.specs.declared.letters.ConversionType.TheVariants as C
 use Rattle.kinds.specs.declared.Kind.{Kind}
 use Rattle.kinds.specs.declared.Kind.TheVariants as K
 use Rattle.specifiers.specs.declared.Element.{Element}

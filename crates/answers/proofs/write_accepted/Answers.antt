@@ -8,7 +8,6 @@ use Rattle.writing.proofs.Chained.{wrote_two}
 use Rattle.writing.specs.Text.{ascii}
 use Rattle.answers.specs.Lines.{line, numbers_line, end_lines}
 use Rattle.answers.proofs.LineTexts.{line-length}
-use borrow.Author.Rules.{rules}
 use Rattle.answers.proofs.write_accepted.Goals as goal
 
 -- the start, from the places behind the numbers, the text and the ends

@@ -3,7 +3,6 @@ use mathlib.Core.Path.{sym}
 use lib.Seq.{take_all, length-take-le}
 use native.Mathlib.Omega.{arith}
 use Rattle.answers.specs.Answers.{most_input, sheet_text}
-use borrow.Author.Rules.{rules}
 use Rattle.answers.proofs.write_answer.Goals as goal
 
 pub slice_bounds-write_parts-end : goal.slice_bounds-write_parts-end

@@ -4,7 +4,6 @@ use lib.ListN.{length}
 use native.Mathlib.Omega.{arith}
 use Rattle.answers.specs.Answers.{length_of}
 use Rattle.answers.proofs.Parts.{no_length, beyond, within, format_part, row_part}
-use borrow.Author.Rules.{rules}
 use Rattle.answers.proofs.write_parts.Goals as goal
 
 pub returns-then-input-lt2 : goal.returns-then-input-lt2

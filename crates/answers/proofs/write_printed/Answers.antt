@@ -7,10 +7,8 @@ use lib.Seq.{length-take-le}
 use native.Mathlib.Omega.{arith}
 use Rattle.writing.specs.Laid.{laid}
 use Rattle.writing.specs.Writers.{Wrote}
-use Rattle.outcomes.specs.Printed.{texts, printed_text, ends_from, printed, written}
+use Rattle.outcomes.specs.Printed.{texts, printed_text, ends_from, written}
 use Rattle.outcomes.specs.declared.Outcome.{Outcome}
-use Rattle.outcomes.specs.declared.Outcome.TheVariants.{Accepted}
-use Rattle.outcomes.proofs.Accepted.{Fitted}
 use Rattle.answers.specs.Answers.{room, slots, outcome_text}
 use Rattle.answers.proofs.Printed.{fits, accepted_answer}
 use borrow.Author.Rules.{rules}

@@ -2,7 +2,6 @@
 use native.Mathlib.Omega.{arith}
 use Rattle.dates.specs.Components.{component_text}
 use Rattle.dates.proofs.Symbols.{room_of_pattern}
-use borrow.Author.Rules.{rules}
 use Rattle.dates.proofs.write_component.Goals as goal
 
 pub write_pattern-requires : goal.write_pattern-requires

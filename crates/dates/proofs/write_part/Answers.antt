@@ -2,7 +2,6 @@
 use mathlib.Core.Path.{refl}
 use native.Mathlib.Omega.{arith}
 use Rattle.writing.proofs.Laid.{laid-first}
-use borrow.Author.Rules.{rules}
 use Rattle.dates.proofs.write_part.Goals as goal
 
 pub write_number-requires : goal.write_number-requires

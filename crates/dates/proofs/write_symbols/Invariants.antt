@@ -1,17 +1,11 @@
 -- `dates::write_symbols` meets its contract. The loop's invariant: the texts of the letters so far are written. Assumes nothing.
-use Prim.Native.Nat.{ℕ, ◌+◌, ◌-◌, ◌≤◌, ◌<◌}
-use mathlib.Core.Path.{◌≡◌, refl, sym, ap, ◌∙◌}
-use native.Mathlib.Omega.{arith}
-use lib.ListN.{length, take, length-take, length-drop}
-use lib.Seq.{take_all}
+use Prim.Native.Nat.{◌-◌, ◌≤◌}
+use mathlib.Core.Path.{◌≡◌}
+use lib.ListN.{length, take}
 use Rattle.writing.specs.Writers.{Wrote}
-use Rattle.writing.proofs.Laid.{laid_none, length-laid}
-use Rattle.writing.proofs.Chained.{wrote_two}
 use Rattle.numerals.specs.Integers.{int_of}
 use Rattle.dates.specs.Components.{symbols_text}
-use Rattle.dates.specs.Steps.{room_of, room_for}
-use Rattle.dates.proofs.Symbols.{text-next, room_next, room_within}
-use borrow.Author.Rules.{rules}
+use Rattle.dates.specs.Steps.{room_for}
 use Rattle.dates.proofs.write_symbols.Given as goal
 
 abbrev pub invariant-loop-i : goal.invariant-loop-i

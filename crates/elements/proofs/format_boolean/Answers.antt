@@ -1,6 +1,5 @@
 -- `elements::format_boolean` meets its contract. Assumes nothing.
 use borrow.Author.Tests.{ne_eqb}
-use borrow.Author.Rules.{rules}
 use Rattle.elements.proofs.format_boolean.Goals as goal
 
 pub returns-then-value-eq0 : goal.returns-then-value-eq0

@@ -1,6 +1,4 @@
 -- `elements::format_char` meets its contract. Assumes nothing.
-use Prim.Native.Nat.{ℕ, ◌≤◌}
-use mathlib.Core.Bool.{Bool, true}
 use mathlib.Core.Path.{◌≡◌, sym, ap, ◌∙◌}
 use lib.IntN.{ℤ, nat_abs}
 use lib.ListN.{length-take}

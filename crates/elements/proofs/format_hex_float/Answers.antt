@@ -1,5 +1,4 @@
 -- `elements::format_hex_float` meets its contract. Assumes nothing.
-use borrow.Author.Rules.{rules}
 use Rattle.elements.proofs.format_hex_float.Goals as goal
 
 pub returns-in-Nan : goal.returns-in-Nan

@@ -1,6 +1,5 @@
 -- `elements::format_integer` meets its contract. Assumes nothing.
 use Rattle.elements.proofs.Shown.{sized_text}
-use borrow.Author.Rules.{rules}
 use Rattle.elements.proofs.format_integer.Goals as goal
 
 pub returns-in-Numeral : goal.returns-in-Numeral

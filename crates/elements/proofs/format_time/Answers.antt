@@ -1,7 +1,6 @@
 -- `elements::format_time` meets its contract. Assumes nothing.
 use native.Mathlib.Omega.{arith}
 use Rattle.elements.proofs.Shown.{sized_text, sized_stop}
-use borrow.Author.Rules.{rules}
 use Rattle.elements.proofs.format_time.Goals as goal
 
 pub returns-then-is_early_fraction : goal.returns-then-is_early_fraction

@@ -8,7 +8,6 @@ use Rattle.elements.specs.Texts.{element_text}
 use Rattle.elements.specs.Ready.{unpadded}
 use Rattle.elements.proofs.PieceTexts.{text-kind}
 use Rattle.elements.proofs.Shown.{sized_text, sized_stop}
-use borrow.Author.Rules.{rules}
 use Rattle.elements.proofs.put_element.Goals as goal
 
 pub returns-then-entry : goal.returns-then-entry

@@ -3,7 +3,6 @@ use mathlib.Core.Path.{ap}
 use lib.ListN.{length}
 use native.Mathlib.Omega.{arith}
 use Rattle.fields.proofs.Cuts.{cut_shorter}
-use borrow.Author.Rules.{rules}
 use Rattle.fields.proofs.format_string.Goals as goal
 
 pub put_padded-requires : goal.put_padded-requires

@@ -1,5 +1,5 @@
 -- `live::column_largest` meets its contract. Assumes nothing.
-use Rattle.std.proofs.Common.{◌≡◌, ℕ, ◌-◌, ◌≤◌, sym, refl, ap, ◌∙◌, arith, rules}
+use Rattle.std.proofs.Common.{◌≡◌, ℕ, sym, refl, ap, ◌∙◌, arith}
 use Rattle.live.proofs.Columns.{column_more, column_reaches}
 use Rattle.live.specs.Steps.{column_largest}
 use Rattle.live.proofs.column_largest.Goals as goal

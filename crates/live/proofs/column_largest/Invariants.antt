@@ -1,6 +1,5 @@
 -- `live::column_largest` meets its contract. Assumes nothing.
-use Rattle.std.proofs.Common.{◌≡◌, ℕ, ◌-◌, ◌≤◌, sym, refl, ap, ◌∙◌, arith, rules}
-use Rattle.live.proofs.Columns.{column_more, column_reaches}
+use Rattle.std.proofs.Common.{◌≡◌, ◌-◌, ◌≤◌}
 use Rattle.live.specs.Steps.{column_largest}
 use Rattle.live.proofs.column_largest.Given as goal
 

@@ -1,8 +1,6 @@
 -- `live::empty` meets its contract. Assumes nothing.
-use Rattle.std.proofs.Common.{◌≡◌, ◌-◌, ◌≤◌, length, sym, refl, ◌∙◌, arith, length-set, get_or-set_same, rules}
-use Rattle.live.proofs.Joining.{emptied}
+use Rattle.std.proofs.Common.{◌≡◌, ◌-◌, ◌≤◌, length}
 use Rattle.live.specs.Steps.{Stored}
-use Rattle.live.proofs.Stores.{stored_none, stored_more}
 use Rattle.live.proofs.empty.Given as goal
 
 abbrev pub invariant-loop-k : goal.invariant-loop-k

@@ -1,7 +1,6 @@
 -- `live::enter_lengths` meets its contract. Assumes nothing.
-use Rattle.std.proofs.Common.{◌≡◌, ℕ, ◌+◌, ◌-◌, ◌<◌, ◌≤◌, length, subst, arith, length-set, rules}
+use Rattle.std.proofs.Common.{◌-◌, ◌≤◌}
 use Rattle.live.specs.Steps.{length_in, Entered}
-use Rattle.live.proofs.Ins.{entered_none, entered_more}
 use Rattle.live.proofs.enter_lengths.Given as goal
 
 abbrev pub invariant-loop-k : goal.invariant-loop-k

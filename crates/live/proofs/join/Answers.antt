@@ -1,5 +1,5 @@
 -- `live::join` meets its contract. Assumes nothing.
-use Rattle.std.proofs.Common.{ℕ, sym, ap, ◌∙◌, arith, rules}
+use Rattle.std.proofs.Common.{ℕ, sym, ap, ◌∙◌, arith}
 use lib.ListN.{length-replicate}
 use Rattle.rows.proofs.Rows.{AllBytes}
 use Rattle.gates.specs.Gates.{if_measured}

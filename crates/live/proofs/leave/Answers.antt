@@ -1,5 +1,5 @@
 -- `live::leave` meets its contract. Assumes nothing.
-use Rattle.std.proofs.Common.{arith, length-set, rules}
+use Rattle.std.proofs.Common.{arith, length-set}
 use Rattle.live.proofs.Changing.{is_absent, is_left}
 use Rattle.live.proofs.leave.Goals as goal
 

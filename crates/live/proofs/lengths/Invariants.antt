@@ -1,9 +1,7 @@
 -- `live::lengths` meets its contract. Assumes nothing.
-use Rattle.gates.proofs.Same.{same-largest}
-use Rattle.std.proofs.Common.{◌-◌, ◌≤◌, ◌∙◌, arith, rules}
+use Rattle.std.proofs.Common.{◌-◌, ◌≤◌}
 use Rattle.live.specs.Lists.{longest_at}
 use Rattle.live.specs.Steps.{Stored}
-use Rattle.live.proofs.Stores.{stored_none, stored_first, first-words}
 use Rattle.live.proofs.lengths.Given as goal
 
 abbrev pub invariant-loop-k : goal.invariant-loop-k

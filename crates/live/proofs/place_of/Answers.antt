@@ -1,7 +1,6 @@
 -- `live::place_of` meets its contract. Assumes nothing.
 use native.Mathlib.Decide.{dec_lt}
-use Rattle.std.proofs.Common.{◌≡◌, ℕ, ◌-◌, ◌<◌, ◌≤◌, arith, rules}
-use Rattle.live.specs.Lists.{number_at}
+use Rattle.std.proofs.Common.{◌≡◌, arith}
 use Rattle.live.proofs.place_of.Goals as goal
 
 pub loop-i-init : goal.loop-i-init

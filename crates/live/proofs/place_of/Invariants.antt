@@ -1,6 +1,5 @@
 -- `live::place_of` meets its contract. Assumes nothing.
-use native.Mathlib.Decide.{dec_lt}
-use Rattle.std.proofs.Common.{◌≡◌, ℕ, ◌-◌, ◌<◌, ◌≤◌, arith, rules}
+use Rattle.std.proofs.Common.{◌≡◌, ℕ, ◌-◌, ◌<◌, ◌≤◌}
 use Rattle.live.specs.Lists.{number_at}
 use Rattle.live.proofs.place_of.Given as goal
 

@@ -1,5 +1,5 @@
 -- `live::refused_by` meets its contract. Assumes nothing.
-use Rattle.std.proofs.Common.{sym, ap, rules}
+use Rattle.std.proofs.Common.{sym, ap}
 use Rattle.gates.specs.Gates.{if_measured}
 use Rattle.live.proofs.refused_by.Goals as goal
 

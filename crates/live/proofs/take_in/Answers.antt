@@ -1,5 +1,5 @@
 -- `live::take_in` meets its contract. Assumes nothing.
-use Rattle.std.proofs.Common.{arith, length-set, rules}
+use Rattle.std.proofs.Common.{arith, length-set}
 use Rattle.live.proofs.Ins.{taken_in}
 use Rattle.live.proofs.take_in.Goals as goal
 

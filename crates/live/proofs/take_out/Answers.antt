@@ -1,5 +1,5 @@
 -- `live::take_out` meets its contract. Assumes nothing.
-use Rattle.std.proofs.Common.{◌≡◌, ℕ, ◌-◌, ◌≤◌, ◌∙◌, subst, arith, rules}
+use Rattle.std.proofs.Common.{◌≡◌, ℕ, ◌∙◌, subst, arith}
 use Rattle.live.specs.Steps.{TakenOut}
 use Rattle.live.proofs.Outs.{out_none, out_more}
 use Rattle.live.proofs.take_out.Goals as goal

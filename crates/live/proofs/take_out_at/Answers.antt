@@ -1,5 +1,5 @@
 -- `live::take_out_at` meets its contract. Assumes nothing.
-use Rattle.std.proofs.Common.{arith, length-set, rules}
+use Rattle.std.proofs.Common.{arith, length-set}
 use Rattle.live.proofs.Outs.{no_length, not_largest, is_lowered}
 use Rattle.live.proofs.take_out_at.Goals as goal
 

@@ -1,5 +1,4 @@
 -- `numbers::decimal_numeral` meets its contract. Assumes nothing.
-use borrow.Author.Rules.{rules}
 use Rattle.numbers.proofs.decimal_numeral.Goals as goal
 
 pub returns : goal.returns

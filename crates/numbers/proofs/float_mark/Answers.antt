@@ -1,5 +1,4 @@
 -- `numbers::float_mark` meets its contract. Assumes nothing.
-use borrow.Author.Rules.{rules}
 use Rattle.numbers.proofs.float_mark.Goals as goal
 
 pub returns : goal.returns

@@ -1,6 +1,5 @@
 -- `numbers::format_numeral` meets its contract. Assumes nothing.
 use Rattle.numbers.proofs.Numerals.{numeral-text}
-use borrow.Author.Rules.{rules}
 use Rattle.numbers.proofs.format_numeral.Goals as goal
 
 pub returns : goal.returns

@@ -1,5 +1,4 @@
 -- `numbers::integer_mark` meets its contract. Assumes nothing.
-use borrow.Author.Rules.{rules}
 use Rattle.numbers.proofs.integer_mark.Goals as goal
 
 pub returns : goal.returns

@@ -1,5 +1,4 @@
 -- `numbers::numeral_of` meets its contract. Assumes nothing.
-use borrow.Author.Rules.{rules}
 use Rattle.numbers.proofs.numeral_of.Goals as goal
 
 pub returns-in-Decimal : goal.returns-in-Decimal

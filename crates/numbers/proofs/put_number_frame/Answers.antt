@@ -1,7 +1,6 @@
 -- `numbers::put_number_frame` meets its contract. Assumes nothing.
 use mathlib.Core.Path.{sym, ◌∙◌}
 use Rattle.frames.proofs.Padded.{bare_frame}
-use borrow.Author.Rules.{rules}
 use Rattle.numbers.proofs.put_number_frame.Goals as goal
 
 -- the prefix alone

@@ -4,7 +4,6 @@ use lib.ListN.{length}
 use Rattle.numerals.specs.Bases.{base_of}
 use Rattle.numerals.specs.Digits.{numeral}
 use Rattle.numerals.proofs.Digits.{length-numeral, numeral_in}
-use borrow.Author.Rules.{rules}
 use Rattle.numbers.proofs.write_numeral.Goals as goal
 
 pub write_grouped-requires : goal.write_grouped-requires

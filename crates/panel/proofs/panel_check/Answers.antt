@@ -1,7 +1,6 @@
 -- `panel::panel_check` meets its contract. Assumes nothing.
 use mathlib.Core.Path.{ap, ◌∙◌}
 use Rattle.panel.specs.Entries.{check_answer}
-use borrow.Author.Rules.{rules}
 use Rattle.panel.proofs.panel_check.Goals as goal
 
 pub returns : goal.returns

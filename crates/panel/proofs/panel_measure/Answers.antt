@@ -1,7 +1,6 @@
 -- `panel::panel_measure` meets its contract. Assumes nothing.
 use mathlib.Core.Path.{ap, ◌∙◌}
 use Rattle.panel.specs.Entries.{print_answer}
-use borrow.Author.Rules.{rules}
 use Rattle.panel.proofs.panel_measure.Goals as goal
 
 pub returns : goal.returns

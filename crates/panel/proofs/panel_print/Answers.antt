@@ -1,7 +1,6 @@
 -- `panel::panel_print` meets its contract. Assumes nothing.
 use native.Mathlib.Omega.{arith}
 use Rattle.panel.proofs.Slots.{prints}
-use borrow.Author.Rules.{rules}
 use Rattle.panel.proofs.panel_print.Goals as goal
 
 pub returns : goal.returns

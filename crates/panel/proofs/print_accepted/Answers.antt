@@ -10,7 +10,6 @@ use Rattle.outcomes.specs.Printed.{printed}
 use Rattle.outcomes.specs.declared.Outcome.TheVariants.{Accepted}
 use Rattle.outcomes.proofs.Accepted.{Fitted, fitted}
 use Rattle.words.specs.LittleEndian.{all_bytes}
-use borrow.Author.Rules.{rules}
 use Rattle.panel.proofs.print_accepted.Goals as goal
 
 -- what it means to be accepted

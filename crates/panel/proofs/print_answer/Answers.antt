@@ -1,7 +1,6 @@
 -- `panel::print_answer` meets its contract. Assumes nothing.
 use mathlib.Core.Path.{sym, ap}
 use Rattle.panel.specs.Entries.{print_answer}
-use borrow.Author.Rules.{rules}
 use Rattle.panel.proofs.print_answer.Goals as goal
 
 pub returns-in-Accepted : goal.returns-in-Accepted

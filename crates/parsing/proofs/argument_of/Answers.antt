@@ -1,5 +1,4 @@
 -- `parsing::argument_of` meets its contract. Assumes nothing.
-use borrow.Author.Rules.{rules}
 use Rattle.parsing.proofs.argument_of.Goals as goal
 
 pub returns-in-Element : goal.returns-in-Element

@@ -1,6 +1,5 @@
 -- `parsing::index_refusal` meets its contract. Assumes nothing.
 use mathlib.Core.Path.{refl}
-use borrow.Author.Rules.{rules}
 use Rattle.parsing.proofs.index_refusal.Goals as goal
 
 pub returns-in_default : goal.returns-in_default

@@ -20,7 +20,6 @@ use Rattle.parsing.specs.Pieces.{passed, element_at, piece_at}
 use Rattle.parsing.specs.declared.Piece.TheVariants.{Byte}
 use Rattle.parsing.specs.declared.Step.TheVariants.{Found}
 use Rattle.parsing.proofs.Progress.{text_in}
-use borrow.Author.Rules.{rules}
 use Rattle.parsing.proofs.next_piece.Goals as goal
 
 -- behind the format's end

@@ -1,7 +1,6 @@
 -- `parsing::take_argument` meets its contract. Assumes nothing.
 use native.Mathlib.Nat.{add_assoc}
 use Rattle.parsing.specs.Pieces.{argument_at}
-use borrow.Author.Rules.{rules}
 use Rattle.parsing.proofs.take_argument.Goals as goal
 
 pub returns-then-is_byte : goal.returns-then-is_byte

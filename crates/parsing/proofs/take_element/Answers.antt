@@ -5,7 +5,6 @@ use lib.ListN.{length}
 use native.Mathlib.Omega.{arith}
 use Rattle.parsing.specs.Pieces.{element_at}
 use Rattle.parsing.proofs.Indexes.{argument-named}
-use borrow.Author.Rules.{rules}
 use Rattle.parsing.proofs.take_element.Goals as goal
 
 pub returns-in_default : goal.returns-in_default

@@ -6,7 +6,7 @@ use Prim.Native.Nat.{ℕ, ◌≤◌}
 use Rattle.utf8.specs.Utf8.{well_formed}
 use lib.Dec.{leb}
 use lib.ListN.{length}
-use borrow.Author.Tests.{lt-ltb, le-ltb, le-leb, lt-leb, not-true, not-false}
+use borrow.Author.Tests.{lt-ltb, le-ltb, le-leb, lt-leb}
 use Rattle.refusals.specs.Limits.{most_format, most_kinds}
 use Rattle.writing.specs.Choose.{choose}
 use Rattle.kinds.specs.Kinds.{all_known}
@@ -14,7 +14,6 @@ use Rattle.parsing.specs.Check.{checked_end, checked}
 use Rattle.parsing.specs.Listed.{placed, ended}
 use Rattle.parsing.specs.declared.Checked.TheVariants.{Refused}
 use Rattle.printing.proofs.Outcomes.{walk_checked}
-use borrow.Author.Rules.{rules}
 use Rattle.printing.proofs.check.Goals as goal
 
 pub returns-then-fmt-gt-MOST_FORMAT : goal.returns-then-fmt-gt-MOST_FORMAT

@@ -2,7 +2,6 @@
 use mathlib.Core.Path.{sym, ap}
 use Rattle.parsing.specs.declared.Ended.{Ended}
 use Rattle.printing.specs.Passes.{checked_of}
-use borrow.Author.Rules.{rules}
 use Rattle.printing.proofs.checked_of.Goals as goal
 
 pub returns-in_default : goal.returns-in_default

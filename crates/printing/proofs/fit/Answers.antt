@@ -1,6 +1,5 @@
 -- `printing::fit` meets its contract. Assumes nothing.
 use borrow.Author.Tests.{le-leb, lt-leb}
-use borrow.Author.Rules.{rules}
 use Rattle.printing.proofs.fit.Goals as goal
 
 pub returns-then-pieces-slots : goal.returns-then-pieces-slots

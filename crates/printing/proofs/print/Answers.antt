@@ -8,7 +8,6 @@ use Rattle.outcomes.specs.declared.Outcome.{Outcome}
 use Rattle.outcomes.proofs.Accepted.{Fitted, fitted}
 use Rattle.printing.proofs.Staged.{staged_text, staged_ends}
 use Rattle.outcomes.proofs.Demand.{demand}
-use borrow.Author.Rules.{rules}
 use Rattle.printing.proofs.print.Goals as goal
 use Rattle.printing.proofs.print.Goals.{In-Accepted, After-fit-answer}
 

@@ -6,7 +6,7 @@ use mathlib.Core.Path.{◌≡◌, sym, ap, ◌∙◌}
 use mathlib.Core.Bool.{true}
 use lib.ListN.{length, take, drop}
 use native.Mathlib.Omega.{arith}
-use borrow.Author.Tests.{lt-ltb, le-ltb, le-leb, lt-leb, not-true, not-false}
+use borrow.Author.Tests.{lt-ltb, le-ltb, le-leb, lt-leb}
 use Rattle.refusals.specs.Limits.{most_format}
 use Rattle.writing.specs.Choose.{choose}
 use Rattle.parsing.specs.Listed.{ended}
@@ -18,7 +18,6 @@ use Rattle.printing.specs.Stages.{staged_texts}
 use Rattle.outcomes.specs.declared.Outcome.TheVariants.{Refused}
 use Rattle.printing.proofs.Outcomes.{walk_measured}
 use Rattle.printing.proofs.Staged.{staged_by, staged_none}
-use borrow.Author.Rules.{rules}
 use Rattle.printing.proofs.stage.Goals as goal
 
 pub returns-then-fmt-gt-MOST_FORMAT : goal.returns-then-fmt-gt-MOST_FORMAT

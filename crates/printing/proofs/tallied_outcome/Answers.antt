@@ -3,7 +3,6 @@ use mathlib.Core.Path.{sym, ap}
 use Rattle.parsing.specs.declared.Ended.TheVariants.{Finished}
 use Rattle.printing.specs.Tallies.{outcome_of}
 use Rattle.printing.specs.declared.tallies.Tally.{Tally}
-use borrow.Author.Rules.{rules}
 use Rattle.printing.proofs.tallied_outcome.Goals as goal
 
 pub returns-in-Length : goal.returns-in-Length

@@ -1,10 +1,9 @@
 -- `answers::lines::write_ends` meets its contract. Assumes nothing.
-use Prim.Native.Nat.{ℕ, ◌+◌, ◌-◌, ◌*◌, ◌≤◌, ◌<◌}
-use mathlib.Core.Path.{◌≡◌, refl, sym, ap, ◌∙◌}
+use Prim.Native.Nat.{◌+◌, ◌≤◌, ◌<◌}
+use mathlib.Core.Path.{refl, sym, ap, ◌∙◌}
 use lib.ListN.{length, get_or, take, length-take, length-drop}
 use lib.Seq.{take_all}
 use native.Mathlib.Omega.{arith}
-use Rattle.writing.specs.Writers.{Wrote}
 use Rattle.writing.proofs.Laid.{laid_none, length-laid}
 use Rattle.writing.proofs.Chained.{wrote_two}
 use Rattle.numerals.specs.Digits.{decimal}

@@ -1,16 +1,9 @@
 -- `answers::lines::write_ends` meets its contract. Assumes nothing.
-use Prim.Native.Nat.{ℕ, ◌+◌, ◌-◌, ◌*◌, ◌≤◌, ◌<◌}
-use mathlib.Core.Path.{◌≡◌, refl, sym, ap, ◌∙◌}
-use lib.ListN.{length, get_or, take, length-take, length-drop}
-use lib.Seq.{take_all}
-use native.Mathlib.Omega.{arith}
+use Prim.Native.Nat.{◌-◌, ◌*◌, ◌≤◌}
+use mathlib.Core.Path.{◌≡◌}
+use lib.ListN.{length, take}
 use Rattle.writing.specs.Writers.{Wrote}
-use Rattle.writing.proofs.Laid.{laid_none, length-laid}
-use Rattle.writing.proofs.Chained.{wrote_two}
-use Rattle.numerals.specs.Digits.{decimal}
-use Rattle.answers.specs.Lines.{line, end_lines}
-use Rattle.answers.proofs.LineTexts.{at_most_ten, line-length, lines_next}
-use borrow.Author.Rules.{rules}
+use Rattle.answers.specs.Lines.{end_lines}
 use Rattle.answers.proofs.lines.write_ends.Given as goal
 
 abbrev pub invariant-loop-k : goal.invariant-loop-k

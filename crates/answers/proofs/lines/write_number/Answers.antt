@@ -3,7 +3,6 @@ use mathlib.Core.Bool.{false}
 use native.Mathlib.Omega.{arith}
 use Rattle.numerals.specs.Digits.{digits, numeral}
 use Rattle.numerals.proofs.Digits.{length-numeral}
-use borrow.Author.Rules.{rules}
 use Rattle.answers.proofs.lines.write_number.Goals as goal
 
 pub write_digits-requires : goal.write_digits-requires

@@ -1,7 +1,6 @@
 -- `answers::lines::write_number_line` meets its contract. Assumes nothing.
 use native.Mathlib.Omega.{arith}
 use Rattle.writing.proofs.Chained.{wrote_byte}
-use borrow.Author.Rules.{rules}
 use Rattle.answers.proofs.lines.write_number_line.Goals as goal
 
 pub returns : goal.returns

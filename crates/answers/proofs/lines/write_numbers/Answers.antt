@@ -9,7 +9,6 @@ use Rattle.writing.proofs.Chained.{wrote_two, wrote_byte}
 use Rattle.numerals.specs.Digits.{decimal}
 use Rattle.answers.specs.Lines.{line}
 use Rattle.answers.proofs.LineTexts.{at_most_twenty, line-length, numbers-line}
-use borrow.Author.Rules.{rules}
 use Rattle.answers.proofs.lines.write_numbers.Goals as goal
 use Rattle.answers.proofs.lines.write_numbers.Goals.{Start}
 

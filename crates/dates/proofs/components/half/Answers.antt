@@ -2,7 +2,6 @@
 use native.Mathlib.Omega.{arith}
 use borrow.Author.Tests.{lt-ltb, le-ltb}
 use Rattle.dates.specs.Components.{half}
-use borrow.Author.Rules.{rules}
 use Rattle.dates.proofs.components.half.Goals as goal
 
 pub returns-then-hour-lt12 : goal.returns-then-hour-lt12

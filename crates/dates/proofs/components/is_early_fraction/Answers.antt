@@ -1,6 +1,5 @@
 -- `dates::components::is_early_fraction` meets its contract. Assumes nothing.
 use Rattle.dates.specs.Components.{is_early_fraction}
-use borrow.Author.Rules.{rules}
 use Rattle.dates.proofs.components.is_early_fraction.Goals as goal
 
 pub returns-then-is_negative : goal.returns-then-is_negative

@@ -5,7 +5,6 @@ use borrow.Author.Tests.{ne_eqb}
 use Rattle.writing.specs.Text.{has}
 use Rattle.dates.specs.Components.{short, name_text}
 use Rattle.dates.proofs.Shown.{shows_word, shows_itself}
-use borrow.Author.Rules.{rules}
 use Rattle.dates.proofs.components.name_part.Goals as goal
 
 pub returns-in-112 : goal.returns-in-112

@@ -6,7 +6,6 @@ use borrow.Author.Tests.{ne_eqb}
 use Rattle.writing.specs.Text.{has}
 use Rattle.dates.specs.Components.{number_text, symbol_text}
 use Rattle.dates.proofs.Shown.{shows_number}
-use borrow.Author.Rules.{rules}
 use Rattle.dates.proofs.components.part_of.Goals as goal
 
 pub returns-in-72 : goal.returns-in-72

@@ -1,6 +1,5 @@
 -- `dates::components::pattern_of` meets its contract: for each component, where its letters stand. Assumes nothing.
 use native.Mathlib.Omega.{arith}
-use borrow.Author.Rules.{rules}
 use Rattle.dates.proofs.components.pattern_of.Goals as goal
 
 pub returns-in-HUpper : goal.returns-in-HUpper

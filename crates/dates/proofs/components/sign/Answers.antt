@@ -1,7 +1,6 @@
 -- `dates::components::sign` meets its contract. Assumes nothing.
 use native.Mathlib.Omega.{arith}
 use Rattle.dates.specs.Components.{sign_text}
-use borrow.Author.Rules.{rules}
 use Rattle.dates.proofs.components.sign.Goals as goal
 
 pub returns-then-is_negative : goal.returns-then-is_negative

@@ -6,7 +6,6 @@ use Rattle.writing.specs.Writers.{laid_if_room}
 use Rattle.elements.specs.PieceTexts.{shown_piece}
 use Rattle.elements.specs.Ready.{Ready, unpadded}
 use Rattle.elements.proofs.PieceTexts.{put_sized, found_suited}
-use borrow.Author.Rules.{rules}
 use Rattle.elements.proofs.pieces.put_piece.Goals as goal
 
 pub unpadded_text-requires : goal.unpadded_text-requires

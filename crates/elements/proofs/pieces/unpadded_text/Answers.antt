@@ -8,7 +8,6 @@ use Rattle.refusals.specs.Limits.{most_format}
 use Rattle.fields.specs.Cut.{cut_to}
 use Rattle.fields.proofs.Cuts.{cut_shorter}
 use Rattle.elements.specs.Ready.{SourceIn, unpadded}
-use borrow.Author.Rules.{rules}
 use Rattle.elements.proofs.pieces.unpadded_text.Goals as goal
 
 -- fixed text is inside the format

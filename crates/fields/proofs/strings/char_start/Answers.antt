@@ -1,5 +1,5 @@
 -- `fields::strings::char_start` meets its contract. The loop's invariant: the cut falls back from i to where it falls back from n. Assumes nothing.
-use Prim.Native.Nat.{ℕ, ◌≤◌}
+use Prim.Native.Nat.{ℕ}
 use mathlib.Core.Path.{◌≡◌, refl, sym, ap, ◌∙◌}
 use lib.ListN.{get_or}
 use native.Mathlib.Omega.{arith}

@@ -1,11 +1,7 @@
 -- `fields::strings::char_start` meets its contract. The loop's invariant: the cut falls back from i to where it falls back from n. Assumes nothing.
-use Prim.Native.Nat.{ℕ, ◌≤◌}
-use mathlib.Core.Path.{◌≡◌, refl, sym, ap, ◌∙◌}
-use lib.ListN.{get_or}
-use native.Mathlib.Omega.{arith}
+use Prim.Native.Nat.{◌≤◌}
+use mathlib.Core.Path.{◌≡◌}
 use Rattle.fields.specs.Cut.{back_to}
-use Rattle.fields.proofs.Cuts.{back_start, back_inside, starts_below, starts_above, goes_on}
-use borrow.Author.Rules.{rules}
 use Rattle.fields.proofs.strings.char_start.Given as goal
 
 abbrev pub invariant-loop-i : goal.invariant-loop-i

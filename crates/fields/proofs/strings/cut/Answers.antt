@@ -5,7 +5,6 @@ use lib.Seq.{length-take-le}
 use borrow.Author.Rules.{part_to_end}
 use Rattle.fields.specs.Cut.{cut_to}
 use Rattle.fields.proofs.Cuts.{cut_within}
-use borrow.Author.Rules.{rules}
 use Rattle.fields.proofs.strings.cut.Goals as goal
 
 pub slice_bounds-result-end-in-Literal : goal.slice_bounds-result-end-in-Literal

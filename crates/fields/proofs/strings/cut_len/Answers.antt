@@ -1,7 +1,6 @@
 -- `fields::strings::cut_len` meets its contract. Assumes nothing.
 use borrow.Author.Tests.{lt-ltb, le-ltb}
 use Rattle.fields.specs.Cut.{cut_length}
-use borrow.Author.Rules.{rules}
 use Rattle.fields.proofs.strings.cut_len.Goals as goal
 
 pub returns-then-n-s : goal.returns-then-n-s

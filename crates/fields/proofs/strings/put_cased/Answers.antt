@@ -6,7 +6,6 @@ use native.Mathlib.Omega.{arith}
 use Rattle.writing.proofs.Laid.{laid-room, laid_no_room}
 use Rattle.fields.specs.Cut.{cased}
 use Rattle.fields.proofs.Cased.{length-cased}
-use borrow.Author.Rules.{rules}
 use Rattle.fields.proofs.strings.put_cased.Goals as goal
 
 pub returns-then-text-out : goal.returns-then-text-out

@@ -1,7 +1,6 @@
 -- `fields::strings::to_upper` meets its contract. Assumes nothing.
 use borrow.Author.Tests.{le-leb, lt-leb}
 use Rattle.fields.specs.Cut.{capital}
-use borrow.Author.Rules.{rules}
 use Rattle.fields.proofs.strings.to_upper.Goals as goal
 
 pub returns-then-b-lt97 : goal.returns-then-b-lt97

@@ -1,6 +1,5 @@
 -- `fields::strings::write_cased` meets its contract. Assumes nothing.
 use Rattle.fields.specs.Cut.{cased}
-use borrow.Author.Rules.{rules}
 use Rattle.fields.proofs.strings.write_cased.Goals as goal
 
 pub returns-then-upper : goal.returns-then-upper

@@ -1,5 +1,5 @@
 -- `fields::strings::write_upper` meets its contract. The invariant: the first i bytes are written in capitals, the rest is as it was. Assumes nothing.
-use Prim.Native.Nat.{ℕ, ◌≤◌, ◌-◌}
+use Prim.Native.Nat.{ℕ}
 use mathlib.Core.Path.{◌≡◌, refl, sym, ap, ◌∙◌}
 use mathlib.Core.List.{map}
 use lib.ListN.{length, get_or, take, length-set, length-map}

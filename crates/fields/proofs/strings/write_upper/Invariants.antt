@@ -1,15 +1,10 @@
 -- `fields::strings::write_upper` meets its contract. The invariant: the first i bytes are written in capitals, the rest is as it was. Assumes nothing.
-use Prim.Native.Nat.{ℕ, ◌≤◌, ◌-◌}
-use mathlib.Core.Path.{◌≡◌, refl, sym, ap, ◌∙◌}
+use Prim.Native.Nat.{◌≤◌, ◌-◌}
+use mathlib.Core.Path.{◌≡◌}
 use mathlib.Core.List.{map}
-use lib.ListN.{length, get_or, take, length-set, length-map}
-use lib.Seq.{take-length}
-use native.Mathlib.Omega.{arith}
+use lib.ListN.{length, take}
 use Rattle.writing.specs.Laid.{laid}
-use Rattle.writing.proofs.Laid.{laid_none, copy_step}
 use Rattle.fields.specs.Cut.{capital}
-use Rattle.fields.proofs.Cased.{upper_at}
-use borrow.Author.Rules.{rules}
 use Rattle.fields.proofs.strings.write_upper.Given as goal
 
 abbrev pub invariant-loop-i : goal.invariant-loop-i

@@ -1,6 +1,5 @@
 -- `parsing::arguments::is_index` meets its contract. Assumes nothing.
 use Rattle.parsing.proofs.Digits.{begins-none, begins-small, begins_large, begins_digit}
-use borrow.Author.Rules.{rules}
 use Rattle.parsing.proofs.arguments.is_index.Goals as goal
 
 pub returns-then-fmt-at-lt49 : goal.returns-then-fmt-at-lt49

@@ -1,6 +1,5 @@
 -- `parsing::arguments::same_index` meets its contract. Assumes nothing.
 use borrow.Author.Tests.{eq-eqb, ne_eqb}
-use borrow.Author.Rules.{rules}
 use Rattle.parsing.proofs.arguments.same_index.Goals as goal
 
 pub returns-then-last-eq0 : goal.returns-then-last-eq0

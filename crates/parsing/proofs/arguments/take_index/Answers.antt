@@ -5,7 +5,6 @@ use native.Mathlib.Omega.{arith}
 use borrow.Author.Tests.{le-leb, lt-leb}
 use Rattle.parsing.specs.Indexes.{index_of, index_at}
 use Rattle.parsing.proofs.Named.{index-inside}
-use borrow.Author.Rules.{rules}
 use Rattle.parsing.proofs.arguments.take_index.Goals as goal
 
 pub returns-then-is_byte : goal.returns-then-is_byte

@@ -1,14 +1,11 @@
 -- `parsing::scanning::is_in_block` meets its contract. The loop's invariant: found says whether a `%` is among the first i bytes. Assumes nothing.
-use Prim.Native.Nat.{◌-◌, ◌≤◌}
 use mathlib.Core.Path.{◌≡◌, sym, ap, ◌∙◌}
-use mathlib.Core.Logic.{⊎_elim}
 use lib.Dec.{ltb}
 use lib.ListN.{drop}
 use native.Mathlib.Omega.{arith}
 use borrow.Author.Tests.{le-ltb}
 use Rattle.parsing.specs.Texts.{text_length}
 use Rattle.parsing.proofs.Blocks.{block_percent, block_more}
-use borrow.Author.Rules.{rules}
 use Rattle.parsing.proofs.scanning.is_in_block.Goals as goal
 use Rattle.parsing.proofs.scanning.is_in_block.Goals.{then-text-at-eq37, else-text-at-eq37}
 

@@ -1,14 +1,9 @@
 -- `parsing::scanning::is_in_block` meets its contract. The loop's invariant: found says whether a `%` is among the first i bytes. Assumes nothing.
 use Prim.Native.Nat.{◌-◌, ◌≤◌}
-use mathlib.Core.Path.{◌≡◌, sym, ap, ◌∙◌}
-use mathlib.Core.Logic.{⊎_elim}
+use mathlib.Core.Path.{◌≡◌}
 use lib.Dec.{ltb}
 use lib.ListN.{drop}
-use native.Mathlib.Omega.{arith}
-use borrow.Author.Tests.{le-ltb}
 use Rattle.parsing.specs.Texts.{text_length}
-use Rattle.parsing.proofs.Blocks.{block_percent, block_more}
-use borrow.Author.Rules.{rules}
 use Rattle.parsing.proofs.scanning.is_in_block.Given as goal
 
 abbrev pub invariant-loop-i : goal.invariant-loop-i

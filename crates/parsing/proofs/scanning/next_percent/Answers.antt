@@ -1,11 +1,7 @@
 -- `parsing::scanning::next_percent` meets its contract. The loop's invariant: the text from i on ends where the text from the start does. Assumes nothing.
-use Prim.Native.Nat.{◌+◌, ◌-◌}
-use mathlib.Core.Path.{◌≡◌, refl}
-use lib.ListN.{length, drop}
+use mathlib.Core.Path.{refl}
 use native.Mathlib.Omega.{arith}
-use Rattle.parsing.specs.Texts.{text_length}
 use Rattle.parsing.proofs.Runs.{text_ends, text-percent, text-more}
-use borrow.Author.Rules.{rules}
 use Rattle.parsing.proofs.scanning.next_percent.Goals as goal
 
 pub loop-i-init : goal.loop-i-init

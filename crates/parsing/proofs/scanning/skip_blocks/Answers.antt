@@ -1,12 +1,10 @@
 -- `parsing::scanning::skip_blocks` meets its contract. The loop's invariant: the text from i on ends where the text from the start does. Assumes nothing.
-use Prim.Native.Nat.{◌+◌, ◌-◌, ◌≤◌}
-use mathlib.Core.Path.{◌≡◌, sym, ◌∙◌}
-use lib.ListN.{length, drop}
+use mathlib.Core.Path.{sym, ◌∙◌}
+use lib.ListN.{drop}
 use native.Mathlib.Omega.{arith}
 use borrow.Author.Tests.{ltb-false}
 use Rattle.parsing.specs.Texts.{text_length}
 use Rattle.parsing.proofs.Blocks.{text_past}
-use borrow.Author.Rules.{rules}
 use Rattle.parsing.proofs.scanning.skip_blocks.Goals as goal
 
 pub returns-then-is_in_block : goal.returns-then-is_in_block

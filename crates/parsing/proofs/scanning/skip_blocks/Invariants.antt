@@ -1,12 +1,8 @@
 -- `parsing::scanning::skip_blocks` meets its contract. The loop's invariant: the text from i on ends where the text from the start does. Assumes nothing.
 use Prim.Native.Nat.{◌+◌, ◌-◌, ◌≤◌}
-use mathlib.Core.Path.{◌≡◌, sym, ◌∙◌}
+use mathlib.Core.Path.{◌≡◌}
 use lib.ListN.{length, drop}
-use native.Mathlib.Omega.{arith}
-use borrow.Author.Tests.{ltb-false}
 use Rattle.parsing.specs.Texts.{text_length}
-use Rattle.parsing.proofs.Blocks.{text_past}
-use borrow.Author.Rules.{rules}
 use Rattle.parsing.proofs.scanning.skip_blocks.Given as goal
 
 abbrev pub invariant-loop-i : goal.invariant-loop-i

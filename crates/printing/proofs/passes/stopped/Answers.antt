@@ -3,7 +3,6 @@ use mathlib.Core.Path.{refl, sym, subst}
 use Rattle.parsing.specs.declared.Ended.TheVariants.{Stopped}
 use Rattle.parsing.specs.declared.Step.{Step}
 use Rattle.printing.specs.Passes.{StopsAt}
-use borrow.Author.Rules.{rules}
 use Rattle.printing.proofs.passes.stopped.Goals as goal
 
 pub returns-in_default : goal.returns-in_default

@@ -1,20 +1,17 @@
 -- `printing::passes::walk` meets its contract. The invariant: `Laying`, of the pieces so far; its measure is what is left of the format. Assumes nothing.
-use Prim.Native.Nat.{◌-◌, ◌<◌, max}
+use Prim.Native.Nat.{max}
 use mathlib.Core.Path.{◌≡◌, sym, ap, subst, ◌∙◌}
-use mathlib.Core.Bool.{Bool, true}
-use mathlib.Core.Logic.{⊎_elim}
-use lib.ListN.{length}
+use mathlib.Core.Bool.{Bool}
 use native.Mathlib.Omega.{arith}
-use Rattle.refusals.specs.Limits.{most_pieces}
 use Rattle.parsing.specs.Pieces.{piece_at}
 use Rattle.parsing.specs.declared.Step.{Step}
 use Rattle.parsing.specs.declared.Step.TheVariants.{Found}
 use Rattle.parsing.proofs.Progress.{advanced}
 use Rattle.elements.specs.declared.Size.{Size}
 use Rattle.printing.specs.Tallies.{added}
-use Rattle.printing.specs.Passes.{Walkable, Passed, StopsAt}
+use Rattle.printing.specs.Passes.{Walkable, StopsAt}
 use Rattle.printing.proofs.Reached.{reached_full, reached_refused, reached_end}
-use Rattle.printing.proofs.Laying.{Laying, piece_ready, laying_as, laying_start, laying_read, laying_printed}
+use Rattle.printing.proofs.Laying.{piece_ready, laying_as, laying_start, laying_read, laying_printed}
 use Rattle.printing.proofs.Laying.{walk_answer, walk_bytes, walk_slots}
 use borrow.Author.Rules.{rules}
 use Rattle.printing.proofs.passes.walk.Goals as goal

@@ -5,7 +5,6 @@ use native.Mathlib.Omega.{arith}
 use lib.Seq.{set_out}
 use Rattle.elements.specs.Sizes.{SizeBelow}
 use Rattle.printing.specs.Tallies.{TallyBelow, add_size, added}
-use borrow.Author.Rules.{rules}
 use Rattle.printing.proofs.tallies.add_size.Goals as goal
 
 -- a length and a size are both known

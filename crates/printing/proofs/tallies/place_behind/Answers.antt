@@ -4,7 +4,6 @@ use native.Mathlib.Nat.{min-eq_left, min-eq_right, le_refl}
 use native.Mathlib.Omega.{arith}
 use Rattle.printing.specs.Tallies.{behind}
 use Rattle.printing.specs.declared.tallies.Tally.{Tally}
-use borrow.Author.Rules.{rules}
 use Rattle.printing.proofs.tallies.place_behind.Goals as goal
 
 pub returns-then-n-room : goal.returns-then-n-room

@@ -1,6 +1,5 @@
 -- `printing::tallies::put_behind` meets its contract. Assumes nothing.
 use Rattle.printing.proofs.Behind.{put_behind}
-use borrow.Author.Rules.{rules}
 use Rattle.printing.proofs.tallies.put_behind.Goals as goal
 
 pub returns : goal.returns
