@@ -15,7 +15,8 @@ bounds-list-k c = simp length-set (omega (arith, c.requires))
 pub returns-then-own-list : goal.returns-then-own-list
 returns-then-own-list c =
     let a = c.args in
-    not_largest a.list.now a.place a.last a.k c.requires.0 c.requires.1 c.requires.2 c.requires.3 c.if-own-list.true
+    not_largest a.list.now a.place a.last a.k c.requires.0 c.requires.1 c.requires.2 c.requires.3
+    (omega (arith, c.if-own-list.true))
 
 pub column_largest-requires : goal.column_largest-requires
 column_largest-requires c =
@@ -28,4 +29,4 @@ pub returns : goal.returns
 returns c =
     let a = c.args in
     is_lowered a.list.now a.place a.last a.k c.requires.0 c.requires.1 c.requires.2 c.requires.3 c.column_largest.result
-    c.if-own-eq0.false c.if-own-list.false c.column_largest.ensures
+    c.if-own-eq0.false (omega (arith, c.if-own-list.false)) c.column_largest.ensures
