@@ -1,11 +1,10 @@
 -- What printing's contract says of what a call left, for what a record states. Assumes nothing.
 use mathlib.Core.Path.{◌≡◌, sym, ap, ◌∙◌}
-use mathlib.Core.Bool.{Bool}
 use mathlib.Core.List.{List}
-use Prim.Native.Nat.{ℕ, ◌≤◌}
+use Prim.Native.Nat.{ℕ}
 use native.Mathlib.Omega.{arith}
 use lib.ListN.{length, take, drop}
-use lib.Seq.{take_at, length-take-le}
+use lib.Seq.{take_at}
 use Rattle.writing.specs.Laid.{laid}
 use Rattle.parsing.specs.Listed.{placed}
 use Rattle.rows.specs.Row.{kinds_of}
@@ -26,15 +25,6 @@ in_room f r (Accepted len k) room slots m n e p q =
     let t = fitted f r room slots len k (sym e) in
     (omega (arith, t.bytes, p), omega (arith, t.slots_enough, q))
 in_room f r (Refused number place) room slots m n e p q = tt
-
--- The first n bytes and k ends are as many.
-pub as_long : (s : List ℕ) (stated : Stated) (out ends : List ℕ) (n k : ℕ) (b : Bool) → n ≤ length out → k ≤ length ends
-    → b ≡ states_printed s stated (length (take n out)) (length (take k ends)) (take n out) (take k ends)
-    → b ≡ states_printed s stated n k (take n out) (take k ends)
-as_long s stated out ends n k b h g e =
-    e
-    ∙ ap (λ (x : ℕ). states_printed s stated x (length (take k ends)) (take n out) (take k ends)) (length-take-le n out h)
-    ∙ ap (λ (x : ℕ). states_printed s stated n x (take n out) (take k ends)) (length-take-le k ends g)
 
 -- The start of what a text was laid over is the text.
 front : (d t : List ℕ) (n : ℕ) → length t ≡ n → take n (laid d t) ≡ t

@@ -1,18 +1,19 @@
 // Runs the lists of vectors in its folder: each record's call is made, and its answer compared with the one that the record states.
 #![tactic(auto)]
 
-ghost use Rattle.std.specs.Prelude.{◌≡◌, ◌+◌, ◌≤◌, ◌<◌, length};
+ghost use Rattle.std.specs.Prelude.{◌≡◌, ◌+◌, ◌≤◌, ◌<◌, IfOk, length};
 ghost use Rattle.records.specs.Stated.{TextLies};
 ghost use Rattle.records.specs.Places.{Lies};
 ghost use Rattle.records.specs.Verdicts.{verdicts, Counts, with_verdict};
 ghost use Rattle.vectors.specs.Right.{states_checked, checks_right, prints_right, is_right};
 ghost use Rattle.vectors.specs.Left.{states_left, InRoom};
 
-use libc::STDOUT_FILENO;
 use outcomes::Outcome;
 use parsing::Checked;
 use records::statements::Stated;
 use records::{Found, Record, Tally};
+use std::rt::Files;
+use std::{fs, io};
 
 // Whether a record states what checking answered.
 fn is_answered(stated: Stated, found: Checked) -> bool
@@ -91,39 +92,47 @@ fn is_right(list: &[u8], rec: Record) -> bool
 }
 
 // Writes a text, a number and another text.
-fn say(text: &[u8], n: usize, rest: &[u8]) {
-    io::write_all(STDOUT_FILENO, text);
-    io::print_decimal(STDOUT_FILENO, n as u64);
-    io::write_all(STDOUT_FILENO, rest);
+fn say(rt: &impl Print, text: &[u8], n: usize, rest: &[u8]) -> io::Result<()> {
+    rt.write_all(text)?;
+    print!(rt; "{n}")?;
+    rt.write_all(rest)
 }
 
 // Names a record that differs, for as many of a list as are to be named.
-fn report(name: &[u8], t: Tally, named: usize)
+fn report(rt: &impl Print, name: &[u8], t: Tally, named: usize) -> io::Result<()>
     requires { t.passed + t.failed < 18446744073709551615 }
 {
     if t.failed < named {
-        io::write_all(STDOUT_FILENO, name);
-        say(b": record ", t.passed + t.failed + 1, b" differs\n");
+        rt.write_all(name)?;
+        say(rt, b": record ", t.passed + t.failed + 1, b" differs\n")?;
     }
+    Ok(())
 }
 
 // The record at the tally's place.
-fn run_record(name: &[u8], list: &[u8], rec: Record, t: Tally, named: usize) -> Tally
+fn run_record(
+    rt: &impl Print,
+    name: &[u8],
+    list: &[u8],
+    rec: Record,
+    t: Tally,
+    named: usize,
+) -> io::Result<Tally>
     requires { (Lies (length list.now) rec) × (t.passed + t.failed < 18446744073709551615) }
-    ensures { result ≡ with_verdict (is_right list.now rec) rec.next t }
+    ensures { IfOk result (λ u. u ≡ with_verdict (is_right list.now rec) rec.next t) }
 {
     let next = rec.next;
     let right = is_right(list, rec);
     if !right {
-        report(name, t, named);
+        report(rt, name, t, named)?;
     }
-    records::counted(t, next, right)
+    Ok(records::counted(t, next, right))
 }
 
 // A list from its first record on, to its end or to a record that breaks the layout.
-fn run_list(name: &[u8], list: &[u8], named: usize) -> Tally
-    ensures counts { Counts (verdicts (is_right list.now) list.now) result }
-    ensures failed_in_bounds { result.passed + result.failed ≤ length list.now }
+fn run_list(rt: &impl Print, name: &[u8], list: &[u8], named: usize) -> io::Result<Tally>
+    ensures counts { IfOk result (λ t. Counts (verdicts (is_right list.now) list.now) t) }
+    ensures failed_in_bounds { IfOk result (λ t. t.passed + t.failed ≤ length list.now) }
 {
     let mut t = Tally {
         at: 0,
@@ -133,85 +142,85 @@ fn run_list(name: &[u8], list: &[u8], named: usize) -> Tally
     while t.at < list.len() {
         let at = t.at;
         let Found::Whole(rec) = records::record_at(list, at) else {
-            return records::broken(t);
+            return Ok(records::broken(t));
         };
-        t = run_record(name, list, rec, t, named);
+        t = run_record(rt, name, list, rec, t, named)?;
     }
-    t
+    Ok(t)
 }
 
 // The line of a list, or of all.
-fn count_line(name: &[u8], passed: usize, failed: usize) {
-    io::write_all(STDOUT_FILENO, name);
-    say(b": ", passed, b" passed, ");
-    say(b"", failed, b" failed\n");
+fn count_line(rt: &impl Print, name: &[u8], passed: usize, failed: usize) -> io::Result<()> {
+    rt.write_all(name)?;
+    say(rt, b": ", passed, b" passed, ")?;
+    say(rt, b"", failed, b" failed\n")
 }
 
 // What came of a list of n bytes.
-fn summary(name: &[u8], t: Tally, n: usize) {
+fn summary(rt: &impl Print, name: &[u8], t: Tally, n: usize) -> io::Result<()> {
     if t.at < n {
-        io::write_all(STDOUT_FILENO, name);
-        say(b": the list is broken at byte ", t.at, b"\n");
+        rt.write_all(name)?;
+        say(rt, b": the list is broken at byte ", t.at, b"\n")?;
     }
-    count_line(name, t.passed, t.failed);
+    count_line(rt, name, t.passed, t.failed)
 }
 
 // A list that is missing, or does not fit into the array: one failure.
-fn unread(name: &[u8]) -> Tally
-    ensures { result.passed + result.failed ≤ 262144 }
+fn unread(rt: &impl Print, name: &[u8]) -> io::Result<Tally>
+    ensures { IfOk result (λ t. t.passed + t.failed ≤ 262144) }
 {
-    io::write_all(STDOUT_FILENO, name);
-    io::write_all(STDOUT_FILENO, b": the list is missing or too long\n");
-    Tally {
+    rt.write_all(name)?;
+    rt.write_all(b": the list is missing or too long\n")?;
+    Ok(Tally {
         at: 0,
         passed: 0,
         failed: 1,
-    }
+    })
 }
 
 // The list in a file.
-fn run_file(file: &[u8], name: &[u8], named: usize) -> Tally
-    ensures { result.passed + result.failed ≤ 262144 }
+fn run_file(rt: &(impl Files + Print), file: &str, name: &[u8], named: usize) -> io::Result<Tally>
+    ensures { IfOk result (λ t. t.passed + t.failed ≤ 262144) }
 {
-    let fd = os::open_read(file);
-    if fd < 0 {
-        return unread(name);
-    }
+    let Ok(mut source) = fs::open(rt, file) else {
+        return unread(rt, name);
+    };
     let mut list = [0u8; 262144];
-    let n = io::read_full(fd, &mut list);
-    libc::close(fd);
+    let n = inputs::read_full(&mut source, &mut list)?;
+    drop(source);
     if n == 262144 {
-        return unread(name);
+        return unread(rt, name);
     }
-    let t = run_list(name, &list[..n], named);
-    summary(name, t, n);
-    t
+    let t = run_list(rt, name, &list[..n], named)?;
+    summary(rt, name, t, n)?;
+    Ok(t)
 }
 
 // The lists of the order's cases, and the original's answers.
-fn run_cases() -> Tally
-    ensures { result.passed + result.failed ≤ 786432 }
+fn run_cases(rt: &(impl Files + Print)) -> io::Result<Tally>
+    ensures { IfOk result (λ t. t.passed + t.failed ≤ 786432) }
 {
-    let checked = run_file(b"check.vec", b"check", 20);
-    let printed = run_file(b"print.vec", b"print", 20);
-    let original = run_file(b"original.vec", b"original", 20);
-    records::added(records::added(checked, printed), original)
+    let checked = run_file(rt, "check.vec", b"check", 20)?;
+    let printed = run_file(rt, "print.vec", b"print", 20)?;
+    let original = run_file(rt, "original.vec", b"original", 20)?;
+    Ok(records::added(records::added(checked, printed), original))
 }
 
 // The lists of dates: the original's answers and Java's.
-fn run_dates() -> Tally
-    ensures { result.passed + result.failed ≤ 524288 }
+fn run_dates(rt: &(impl Files + Print)) -> io::Result<Tally>
+    ensures { IfOk result (λ t. t.passed + t.failed ≤ 524288) }
 {
-    let original = run_file(b"dates.vec", b"dates", 20);
-    let java = run_file(b"java.vec", b"java", 20);
-    records::added(original, java)
+    let original = run_file(rt, "dates.vec", b"dates", 20)?;
+    let java = run_file(rt, "java.vec", b"java", 20)?;
+    Ok(records::added(original, java))
 }
 
 // The failures of the list of wrong records are wanted, and are neither named nor added up.
-fn main() {
-    let cases = run_cases();
-    let dates = run_dates();
+fn main(rt: HostRuntime) -> io::Result<()> {
+    let cases = run_cases(&rt)?;
+    let dates = run_dates(&rt)?;
     let all = records::added(cases, dates);
-    count_line(b"all", all.passed, all.failed);
-    run_file(b"wrong.vec", b"wrong", 0);
+    count_line(&rt, b"all", all.passed, all.failed)?;
+    run_file(&rt, "wrong.vec", b"wrong", 0)?;
+    Ok(())
 }
