@@ -26,7 +26,7 @@ unfoldable pub since_year0 : ℤ → ℕ
 since_year0 (pos n) = epoch_day * day_seconds * second_nanos + n
 since_year0 (negsuc n) = epoch_day * day_seconds * second_nanos - suc n
 
--- The weekday of a day: it is n - epochDay days from a Thursday, and 7 times epochDay days are whole weeks.
+-- The weekday of a day: it is n - epoch_day days from a Thursday, and 7 times epoch_day days are whole weeks.
 unfoldable pub weekday_of : ℕ → ℕ
 weekday_of n = (thursday + (n + 7 * epoch_day - epoch_day)) % 7
 
