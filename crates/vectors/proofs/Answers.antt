@@ -1,6 +1,6 @@
 -- What printing's contract says of what a call left, for what a record states. Assumes nothing.
-use mathlib.Core.Bool.{Bool}
 use mathlib.Core.Path.{◌≡◌, sym, ap, ◌∙◌}
+use mathlib.Core.Bool.{Bool}
 use mathlib.Core.List.{List}
 use Prim.Native.Nat.{ℕ, ◌≤◌}
 use native.Mathlib.Omega.{arith}
@@ -27,15 +27,6 @@ in_room f r (Accepted len k) room slots m n e p q =
     (omega (arith, t.bytes, p), omega (arith, t.slots_enough, q))
 in_room f r (Refused number place) room slots m n e p q = tt
 
--- The start of what a text was laid over is the text.
-front : (d t : List ℕ) (n : ℕ) → length t ≡ n → take n (laid d t) ≡ t
-unfolding laid
-front d t n e = take_at t (drop (length t) d) n e
-
-as_many : (f r : List ℕ) (n k : ℕ) → Accepts f r n k → length (ends_from 0 (texts f r)) ≡ k
-unfolding texts
-as_many f r n k a = ends_length 0 (texts f r) ∙ texts-length f r (placed f (kinds_of r)) ∙ sym a.pieces
-
 -- The first n bytes and k ends are as many.
 pub as_long : (s : List ℕ) (stated : Stated) (out ends : List ℕ) (n k : ℕ) (b : Bool) → n ≤ length out → k ≤ length ends
     → b ≡ states_printed s stated (length (take n out)) (length (take k ends)) (take n out) (take k ends)
@@ -44,6 +35,15 @@ as_long s stated out ends n k b h g e =
     e
     ∙ ap (λ (x : ℕ). states_printed s stated x (length (take k ends)) (take n out) (take k ends)) (length-take-le n out h)
     ∙ ap (λ (x : ℕ). states_printed s stated n x (take n out) (take k ends)) (length-take-le k ends g)
+
+-- The start of what a text was laid over is the text.
+front : (d t : List ℕ) (n : ℕ) → length t ≡ n → take n (laid d t) ≡ t
+unfolding laid
+front d t n e = take_at t (drop (length t) d) n e
+
+as_many : (f r : List ℕ) (n k : ℕ) → Accepts f r n k → length (ends_from 0 (texts f r)) ≡ k
+unfolding texts
+as_many f r n k a = ends_length 0 (texts f r) ∙ texts-length f r (placed f (kinds_of r)) ∙ sym a.pieces
 
 -- What is left of a call is the text and the ends of the definitions.
 pub left_right : (s : List ℕ) (stated : Stated) (f r d e out ends : List ℕ) (o : Outcome) → o ≡ printed f r 2048 512
