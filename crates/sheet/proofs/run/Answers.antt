@@ -37,10 +37,10 @@ whole (Some xs) None buf n P l h k e p = absurd k
 whole (Some xs) (Some ys) buf n P l h k e p = subst P (looked_at xs ys buf n l h k e) p
 
 pub slice_bounds-answer-end : goal.slice_bounds-answer-end
-slice_bounds-answer-end g c = let e = c.write_answer-len.ensures in within _ _ _ _ e.0 e.1
+slice_bounds-answer-end g c = let e = c.write_answer-len.ensures in omega (arith, within _ _ _ _ e.0 e.1)
 
 pub slice_bounds-write_all-end : goal.slice_bounds-write_all-end
-slice_bounds-write_all-end g c = let e = c.write_answer-len.ensures in sym (length-take-le _ _ (within _ _ _ _ e.0 e.1))
+slice_bounds-write_all-end g c = let e = c.write_answer-len.ensures in sym (length-take-le _ _ (omega (arith, within _ _ _ _ e.0 e.1)))
 
 pub returns : goal.returns
 returns g c =
