@@ -110,29 +110,19 @@ fn report(rt: &impl Print, name: &[u8], t: Tally, named: usize) -> io::Result<()
 }
 
 // The record at the tally's place.
-fn run_record(
-    rt: &impl Print,
-    name: &[u8],
-    list: &[u8],
-    rec: Record,
-    t: Tally,
-    named: usize,
-) -> io::Result<Tally>
+fn run_record(list: &[u8], rec: Record, t: Tally) -> Tally
     requires { (Lies (length list.now) rec) × (t.passed + t.failed < 18446744073709551615) }
-    ensures { IfOk result (λ u. u ≡ with_verdict (is_right list.now rec) rec.next t) }
+    ensures { result ≡ with_verdict (is_right list.now rec) rec.next t }
 {
     let next = rec.next;
     let right = is_right(list, rec);
-    if !right {
-        report(rt, name, t, named)?;
-    }
-    Ok(records::counted(t, next, right))
+    records::counted(t, next, right)
 }
 
 // A list from its first record on, to its end or to a record that breaks the layout.
-fn run_list(rt: &impl Print, name: &[u8], list: &[u8], named: usize) -> io::Result<Tally>
-    ensures counts { IfOk result (λ t. Counts (verdicts (is_right list.now) list.now) t) }
-    ensures failed_in_bounds { IfOk result (λ t. t.passed + t.failed ≤ length list.now) }
+fn run_list(list: &[u8]) -> Tally
+    ensures counts { Counts (verdicts (is_right list.now) list.now) result }
+    ensures failed_in_bounds { result.passed + result.failed ≤ length list.now }
 {
     let mut t = Tally {
         at: 0,
@@ -142,11 +132,35 @@ fn run_list(rt: &impl Print, name: &[u8], list: &[u8], named: usize) -> io::Resu
     while t.at < list.len() {
         let at = t.at;
         let Found::Whole(rec) = records::record_at(list, at) else {
-            return Ok(records::broken(t));
+            return records::broken(t);
         };
-        t = run_record(rt, name, list, rec, t, named)?;
+        t = run_record(list, rec, t);
     }
-    Ok(t)
+    t
+}
+
+// Names the records of a list that differ, up to the first that breaks the layout: as many as are to be named.
+fn report_list(rt: &impl Print, name: &[u8], list: &[u8], named: usize) -> io::Result<()> {
+    let mut t = Tally {
+        at: 0,
+        passed: 0,
+        failed: 0,
+    };
+    while t.at < list.len() {
+        if named <= t.failed {
+            return Ok(());
+        }
+        let at = t.at;
+        let Found::Whole(rec) = records::record_at(list, at) else {
+            return Ok(());
+        };
+        let next = run_record(list, rec, t);
+        if t.failed < next.failed {
+            report(rt, name, t, named)?;
+        }
+        t = next;
+    }
+    Ok(())
 }
 
 // The line of a list, or of all.
@@ -165,17 +179,20 @@ fn summary(rt: &impl Print, name: &[u8], t: Tally, n: usize) -> io::Result<()> {
     count_line(rt, name, t.passed, t.failed)
 }
 
-// A list that is missing, or does not fit into the array: one failure.
-fn unread(rt: &impl Print, name: &[u8]) -> io::Result<Tally>
-    ensures { IfOk result (λ t. t.passed + t.failed ≤ 262144) }
+// What a list counts as that is missing, or does not fit into the array: one failure.
+fn unread() -> Tally
+    ensures { result.passed + result.failed ≤ 262144 }
 {
-    rt.write_all(name)?;
-    rt.write_all(b": the list is missing or too long\n")?;
-    Ok(Tally {
+    Tally {
         at: 0,
         passed: 0,
         failed: 1,
-    })
+    }
+}
+
+fn report_unread(rt: &impl Print, name: &[u8]) -> io::Result<()> {
+    rt.write_all(name)?;
+    rt.write_all(b": the list is missing or too long\n")
 }
 
 // The list in a file.
@@ -183,15 +200,20 @@ fn run_file(rt: &(impl Files + Print), file: &str, name: &[u8], named: usize) ->
     ensures { IfOk result (λ t. t.passed + t.failed ≤ 262144) }
 {
     let Ok(mut source) = fs::open(rt, file) else {
-        return unread(rt, name);
+        report_unread(rt, name)?;
+        return Ok(unread());
     };
     let mut list = [0u8; 262144];
     let n = inputs::read_full(&mut source, &mut list)?;
     drop(source);
     if n == 262144 {
-        return unread(rt, name);
+        report_unread(rt, name)?;
+        return Ok(unread());
     }
-    let t = run_list(rt, name, &list[..n], named)?;
+    let t = run_list(&list[..n]);
+    if 0 < t.failed {
+        report_list(rt, name, &list[..n], named)?;
+    }
     summary(rt, name, t, n)?;
     Ok(t)
 }

@@ -5,7 +5,7 @@ use Rattle.vectors.specs.Right.{is_right}
 use Rattle.vectors.proofs.run_list.Given as goal
 
 abbrev pub invariant-loop-t : goal.invariant-loop-t
-invariant-loop-t g l = Counting (is_right l.list) l.list l.t
+invariant-loop-t l = Counting (is_right l.list) l.list l.t
 
 abbrev pub decreases-loop-t : goal.decreases-loop-t
-decreases-loop-t g l = length l.list - l.t.at
+decreases-loop-t l = length l.list - l.t.at
