@@ -19,8 +19,8 @@ at_most_twenty n h = omega (arith, length-numeral false 10 n, twenty_places n h)
 pub at_most_ten : (n : ℕ) → n < 2 ^ 32 → length (decimal n) ≤ 10
 at_most_ten n h = omega (arith, length-numeral false 10 n, places_le 10 9 n (lit≤ tt) (omega arith))
 
-pub line-length : (t : List ℕ) → length (line t) ≡ length t + 1
-line-length t = length-append t (10 ∷ [])
+pub line_length : (t : List ℕ) → length (line t) ≡ length t + 1
+line_length t = length-append t (10 ∷ [])
 
 -- a line of numbers, part by part
 pub numbers-line : (word : List ℕ) (a b : ℕ) → ((word ++ decimal a) ++ (code " " ∷ [])) ++ line (decimal b) ≡ numbers_line word a b

@@ -31,3 +31,5 @@ module _ (s : List ℕ) where
 
   pub row_part : (n : ℕ) → n ≡ length_of s → take (length s - (2 + n)) (drop (2 + n) s) ≡ row_of s
   row_part n e = take_all (length s - (2 + n)) (drop (2 + n) s) (omega (arith, length-drop (2 + n) s)) ∙ ap (λ (m : ℕ). drop (2 + m) s) e
+
+pub ruleset parts = (no_length, beyond, within, format_part, row_part)

@@ -1,12 +1,11 @@
 -- What the program `sheet` reads and what it prints. 01, "Cases", from "Program `sheet`" on.
-use Rattle.std.specs.Prelude.{ℕ, ◌+◌, Bool, ◌&&◌, List, ◌++◌, leb, length, take, drop}
+use Rattle.std.specs.Prelude.{ℕ, ◌+◌, Bool, ◌&&◌, List, ◌++◌, leb, length, take, drop, Ok, Err}
 use Rattle.writing.specs.Choose.{choose}
 use Rattle.writing.specs.Text.{ascii}
 use Rattle.answers.specs.Lines.{line, numbers_line, end_lines}
 use Rattle.words.specs.LittleEndian.{word_at}
-use Rattle.outcomes.specs.Printed.{texts, printed_text, ends_from, printed}
-use Rattle.outcomes.specs.declared.Outcome.{Outcome}
-use Rattle.outcomes.specs.declared.Outcome.TheVariants.{Accepted, Refused}
+use Rattle.refusals.specs.Numbers.{refusal_number}
+use Rattle.outcomes.specs.Printed.{Outcome, texts, printed_text, ends_from, printed}
 
 -- "reads up to 65,536 bytes"
 abbrev pub most_input : ℕ
@@ -36,8 +35,8 @@ has_format s = leb 2 (length s) && leb (2 + length_of s) (length s)
 
 -- "Fields: length, pieces; the text; one end a line. A refusal is `no`, number, place on one line."
 abbrev pub outcome_text : Outcome → List ℕ → List ℕ → List ℕ
-outcome_text (Accepted n k) text ends = numbers_line (ascii "ok ") n k ++ line text ++ end_lines ends
-outcome_text (Refused number place) text ends = numbers_line (ascii "no ") number place
+outcome_text (Ok m) text ends = numbers_line (ascii "ok ") m.length m.pieces ++ line text ++ end_lines ends
+outcome_text (Err t) text ends = numbers_line (ascii "no ") (refusal_number t.refusal) t.place
 
 -- The answer to a format and a row.
 abbrev pub printed_answer : List ℕ → List ℕ → List ℕ

@@ -8,9 +8,8 @@ ghost use Rattle.writing.specs.Writers.{Wrote};
 ghost use Rattle.answers.specs.Answers.{room, slots, printed_answer, answer_text, sheet_text, most_answer};
 ghost use Rattle.answers.specs.Writers.{WroteAccepted};
 
-use outcomes::Outcome;
-
 // Writes the answer of an accepted call. Answers its length.
+#[tactic(auto, using(crate::proofs::LineTexts::line_length))]
 fn write_accepted(out: &mut [u8], text: &[u8], ends: &[u32]) -> usize
     requires { (most_answer ≤ length out.old) × (length text.now ≤ room) × (length ends.now ≤ slots) }
     ensures { WroteAccepted out.old text.now ends.now result out.new }
@@ -21,23 +20,27 @@ fn write_accepted(out: &mut [u8], text: &[u8], ends: &[u32]) -> usize
 }
 
 // Prints a row under a format and writes the answer. Answers its length.
-fn write_printed<'a>(out: &mut [u8], fmt: &'a [u8], row: &'a [u8]) -> usize
+fn write_printed(out: &mut [u8], fmt: &[u8], row: &[u8]) -> usize
     requires { most_answer ≤ length out.old }
     ensures { Wrote out.old (printed_answer fmt.now row.now) result out.new }
 {
     let mut text = [0u8; 16384];
     let mut ends = [0u32; 512];
     match printing::print(fmt, row, &mut text, &mut ends) {
-        Outcome::Accepted { length, pieces } => {
-            write_accepted(out, &text[..length as usize], &ends[..pieces as usize])
-        }
-        Outcome::Refused { number, place } => {
-            lines::write_numbers(out, b"no ", number as u64, place as u64)
+        Ok(found) => write_accepted(
+            out,
+            &text[..found.length as usize],
+            &ends[..found.pieces as usize],
+        ),
+        Err(stop) => {
+            let number = stop.refusal.number() as u64;
+            lines::write_numbers(out, b"no ", number, stop.place as u64)
         }
     }
 }
 
 // Writes the answer to an input of a length that is looked at. Answers its length.
+#[tactic(auto, using(crate::proofs::Parts::parts))]
 fn write_parts(out: &mut [u8], input: &[u8]) -> usize
     requires { most_answer ≤ length out.old }
     ensures { Wrote out.old (answer_text input.now) result out.new }
@@ -45,7 +48,7 @@ fn write_parts(out: &mut [u8], input: &[u8]) -> usize
     if input.len() < 2 {
         return lines::write_line(out, b"no input");
     }
-    let n = words::two(input, 0) as usize;
+    let n = words::word_at::<2>(input, 0) as usize;
     if input.len() - 2 < n {
         return lines::write_line(out, b"no input");
     }
@@ -57,8 +60,5 @@ pub fn write_answer(out: &mut [u8], input: &[u8]) -> usize
     requires { most_answer ≤ length out.old }
     ensures { Wrote out.old (sheet_text input.now) result out.new }
 {
-    if 65536 < input.len() {
-        return write_parts(out, &input[..65536]);
-    }
-    write_parts(out, input)
+    write_parts(out, &input[..input.len().min(65536)])
 }

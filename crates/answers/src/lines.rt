@@ -36,6 +36,7 @@ pub(crate) fn write_line(out: &mut [u8], text: &[u8]) -> usize
 }
 
 // Writes a word and two numbers on a line. Answers the line's length. A number has at most 20 digits.
+#[tactic(auto, using(crate::proofs::LineTexts::at_most_twenty, crate::proofs::LineTexts::line_length, std::proofs::lemmas::Grind::common_steps))]
 pub(crate) fn write_numbers(out: &mut [u8], word: &[u8], a: u64, b: u64) -> usize
     requires { length word.now + 42 ≤ length out.old }
     ensures { (Wrote out.old (numbers_line word.now a b) result out.new) × (result ≤ length word.now + 42) }
@@ -48,13 +49,14 @@ pub(crate) fn write_numbers(out: &mut [u8], word: &[u8], a: u64, b: u64) -> usiz
 }
 
 // Writes ends, one a line. Answers the length of the lines. An end has at most 10 digits.
+#[tactic(auto, using(crate::proofs::LineTexts::at_most_ten, crate::proofs::LineTexts::line_length))]
 pub(crate) fn write_ends(out: &mut [u8], ends: &[u32]) -> usize
     requires { 11 * length ends.now ≤ length out.old }
     ensures { (Wrote out.old (end_lines ends.now) result out.new) × (result ≤ 11 * length ends.now) }
 {
-    let mut at: usize = 0;
-    for k in 0..ends.len() {
-        at = at + write_number_line(&mut out[at..], ends[k] as u64);
+    let mut at = 0;
+    for &end in ends {
+        at += write_number_line(&mut out[at..], u64::from(end));
     }
     at
 }

@@ -1,8 +1,6 @@
 -- The parts of the hexadecimal text of a finite binary64 value. 01, "Hexadecimal floats".
-use Rattle.std.specs.Prelude.{ℕ, ◌+◌, ◌-◌, ◌/◌, ◌^◌, max, true, false, ltb, eqb}
+use Rattle.std.specs.Prelude.{ℕ, ◌+◌, ◌-◌, ◌/◌, ◌^◌, max, true, false, ltb, eqb, None, Option, Some}
 use Rattle.writing.specs.Choose.{choose}
-use Rattle.numerals.specs.declared.NumericParam.{NumericParam}
-use Rattle.numerals.specs.declared.NumericParam.TheVariants.{Literal, FromArgument}
 use Rattle.binary64.specs.Fields.{exponent_field, fraction_field, scaled_bits}
 use Rattle.binary64.specs.Rounding.{nearest_to, kept_digits}
 use Rattle.binary64.specs.declared.HexFloat.{HexFloat}
@@ -33,20 +31,20 @@ rounded p f e bias =
     choose (ltb p 13) (λ _. carried p (nearest_to f (16 ^ (13 - p))) e bias) (λ _. normal_form f 13 (p - 13) e bias)
 
 -- A normal value with this fraction and biased exponent. Of the precision: "0 as 1".
-abbrev pub normal_of : NumericParam → ℕ → ℕ → ℕ → HexFloat
-normal_of FromArgument f e bias = shortest f e bias
-normal_of (Literal p) f e bias = rounded (max p 1) f e bias
+abbrev pub normal_of : Option ℕ → ℕ → ℕ → ℕ → HexFloat
+normal_of None f e bias = shortest f e bias
+normal_of (Some p) f e bias = rounded (max p 1) f e bias
 
 -- "Subnormal with precision below 13 is first scaled by 2 to the 54th, an exact f64 product, and 54 is taken off the exponent. Otherwise it is .."
-abbrev pub subnormal_of : NumericParam → ℕ → HexFloat
-subnormal_of FromArgument f = subnormal_form f
-subnormal_of (Literal p) f =
+abbrev pub subnormal_of : Option ℕ → ℕ → HexFloat
+subnormal_of None f = subnormal_form f
+subnormal_of (Some p) f =
     choose (ltb p 13)
-    (λ _. normal_of (Literal p) (fraction_field (scaled_bits f)) (exponent_field (scaled_bits f)) (1023 + 54))
+    (λ _. normal_of (Some p) (fraction_field (scaled_bits f)) (exponent_field (scaled_bits f)) (1023 + 54))
     (λ _. subnormal_form f)
 
 -- The text's parts for the bits b, which are those of a finite value, at a precision.
-unfoldable pub hex_float_of : ℕ → NumericParam → HexFloat
+unfoldable pub hex_float_of : ℕ → Option ℕ → HexFloat
 hex_float_of b p =
     choose (eqb (exponent_field b) 0)
     (λ _. choose (eqb (fraction_field b) 0) (λ _. zero_form) (λ _. subnormal_of p (fraction_field b)))

@@ -8,8 +8,6 @@ ghost use Rattle.binary64.specs.Fields.{negative, exponent_field, fraction_field
 ghost use Rattle.binary64.specs.Rounding.{nearest_to, kept_digits};
 ghost use Rattle.binary64.specs.HexFloat.{shortest, rounded, normal_of, subnormal_form, subnormal_of, hex_float_of};
 
-use numerals::NumericParam;
-
 // The fields of a bit pattern: sign, biased exponent, fraction.
 #[derive(Clone, Copy)]
 pub struct FloatParts {
@@ -157,13 +155,13 @@ fn with_precision(precision: u32, mantissa: u64, exponent: u32, bias: u32) -> He
 }
 
 // A normal value with this fraction and biased exponent.
-fn normal(precision: NumericParam, mantissa: u64, exponent: u32, bias: u32) -> HexFloat
+fn normal(precision: Option<u32>, mantissa: u64, exponent: u32, bias: u32) -> HexFloat
     requires { (mantissa < 2 ^ 52) × (exponent < 2048) }
     ensures { result ≡ normal_of precision mantissa exponent bias }
 {
     match precision {
-        NumericParam::FromArgument => trimmed(mantissa, exponent, bias),
-        NumericParam::Literal(p) => {
+        None => trimmed(mantissa, exponent, bias),
+        Some(p) => {
             if p == 0 {
                 return with_precision(1, mantissa, exponent, bias);
             }
@@ -187,13 +185,13 @@ fn unscaled(mantissa: u64) -> HexFloat
 }
 
 // A subnormal value: scaled up first where fewer than 13 digits are asked for.
-fn subnormal(precision: NumericParam, mantissa: u64) -> HexFloat
+fn subnormal(precision: Option<u32>, mantissa: u64) -> HexFloat
     requires { (1 ≤ mantissa) × (mantissa < 2 ^ 52) }
     ensures { result ≡ subnormal_of precision mantissa }
 {
     match precision {
-        NumericParam::FromArgument => unscaled(mantissa),
-        NumericParam::Literal(p) => {
+        None => unscaled(mantissa),
+        Some(p) => {
             if p < 13 {
                 let parts = to_parts(scale_up(mantissa));
                 let exponent = parts.exponent;
@@ -206,7 +204,7 @@ fn subnormal(precision: NumericParam, mantissa: u64) -> HexFloat
 }
 
 // The text of a finite value at a precision, in parts.
-pub fn hex_float(bits: u64, precision: NumericParam) -> HexFloat
+pub fn hex_float(bits: u64, precision: Option<u32>) -> HexFloat
     ensures { result ≡ hex_float_of bits precision }
 {
     let parts = to_parts(bits);

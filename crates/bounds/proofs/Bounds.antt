@@ -1,4 +1,5 @@
 -- The text of every piece of a format, for a row that keeps its layout, is shorter than 2 to the 32nd bytes. Assumes nothing.
+use Rattle.std.specs.Prelude.{Err, Ok, Result}
 use mathlib.Core.Path.{◌≡◌}
 use mathlib.Core.Bool.{true}
 use mathlib.Core.List.{List, []}
@@ -11,16 +12,11 @@ use Rattle.refusals.specs.Limits.{most_format, most_pieces}
 use Rattle.writing.proofs.Choose.{by_test}
 use Rattle.kinds.specs.Kinds.{kind_in}
 use Rattle.specifiers.specs.Specifier.{begins_with, specifier_at}
-use Rattle.specifiers.specs.declared.Specifier.{Specifier}
-use Rattle.specifiers.specs.declared.Specifier.TheVariants as S
 use Rattle.parsing.specs.declared.arguments.Index.{Index}
-use Rattle.parsing.specs.declared.arguments.Index.TheVariants as I
 use Rattle.parsing.specs.Texts.{text_length}
 use Rattle.parsing.specs.Pieces.{start, argument_at, after_specifier, after_index, element_at, piece_at}
 use Rattle.parsing.specs.Listed.{Placed, and_rest, placed_from, placed}
 use Rattle.parsing.specs.declared.Cursor.{Cursor}
-use Rattle.parsing.specs.declared.Step.{Step}
-use Rattle.parsing.specs.declared.Step.TheVariants.{Found, Refused}
 use Rattle.rows.specs.Row.{count_of, kinds_of, text_area, entry_at, named_text, is_row}
 use Rattle.rows.specs.declared.entries.Entry.{Entry}
 use Rattle.rows.proofs.Rows.{AllBytes, value-below, row_shape}
@@ -29,6 +25,10 @@ use Rattle.outcomes.specs.Printed.{texts_of, texts}
 use Rattle.bounds.proofs.Elements.{SpecifierLimited, specifier_limited}
 use Rattle.bounds.proofs.Frames.{Short, Body}
 use Rattle.bounds.proofs.Texts.{element-short}
+use Rattle.refusals.specs.Numbers.{Parsed}
+use Rattle.parsing.specs.Pieces.{Step}
+use Rattle.refusals.specs.declared.Refusal.{Refusal}
+use Rattle.specifiers.specs.declared.Element.{Element}
 
 part_length : (n at : ℕ) (t : List ℕ) → length (take n (drop at t)) ≤ length t
 part_length n at t = omega (arith, length-take n (drop at t), length-drop at t)
@@ -44,20 +44,21 @@ module _ (s row : List ℕ) (few : length s ≤ most_format) (kept : is_row row 
       omega (arith, part_length (v / 2 ^ 32) (v % 2 ^ 32) (text_area row), length-drop (6 + 9 * count_of row) row, row_shape row kept)
 
   abbrev StepShort : Step → Type 0
-  StepShort (Found p n) = Short (piece_text s row p)
-  StepShort (Refused number) = Unit {0}
+  StepShort (Ok (p, n)) = Short (piece_text s row p)
+  StepShort (Err refusal) = Unit {0}
 
-  specifier_short : (a count : ℕ) (t : Specifier) → SpecifierLimited t → StepShort (after_specifier a count t)
+  specifier_short : (a count : ℕ) (t : Parsed Element) → SpecifierLimited t → StepShort (after_specifier a count t)
   unfolding shown_piece entry_at
-  specifier_short a count (S.Read e at) h =
+  specifier_short a count (Ok (e, at)) h =
       let x = entry_at row e.argument in
       element-short e h x (value-below row e.argument bytes) (named_text row x) (named_body x)
-  specifier_short a count (S.Refused number) h = tt
+  specifier_short a count (Err refusal) h = tt
 
-  index_short : (ks : List ℕ) (x : Index) → StepShort (after_index s ks x)
-  index_short ks (I.Named a next count) =
-      specifier_short a count (specifier_at s next a (kind_in (get_or ks (a - 1) 0))) (specifier_limited s a (kind_in (get_or ks (a - 1) 0)) next)
-  index_short ks (I.Refused number) = tt
+  index_short : (ks : List ℕ) (x : Result Index Refusal) → StepShort (after_index s ks x)
+  index_short ks (Ok x) =
+      let k = kind_in (get_or ks (x.argument - 1) 0) in
+      specifier_short x.argument x.count (specifier_at s x.next x.argument k) (specifier_limited s x.argument k x.next)
+  index_short ks (Err refusal) = tt
 
   step_short : (ks : List ℕ) (c : Cursor) → StepShort (piece_at s ks c)
   unfolding piece_at element_at shown_piece
@@ -79,9 +80,9 @@ module _ (s row : List ℕ) (few : length s ≤ most_format) (kept : is_row row 
     where
       go : (t : Step) → StepShort t → ((m : Cursor) → AllShort (placed_from n (piece_at s ks) (length s) m))
           → AllShort (and_rest t c (λ m. placed_from n (piece_at s ks) (length s) m))
-      go (Found p m) h rest zero = h
-      go (Found p m) h rest (suc k) = rest m k
-      go (Refused number) h rest k = omega arith
+      go (Ok (p, m)) h rest zero = h
+      go (Ok (p, m)) h rest (suc k) = rest m k
+      go (Err refusal) h rest k = omega arith
 
 pub text-short : (s row : List ℕ) → length s ≤ most_format → is_row row ≡ true → AllBytes row → (k : ℕ) → length (get_or (texts s row) k []) < 2 ^ 32
 unfolding texts placed

@@ -1,4 +1,5 @@
 -- The hexadecimal text of a float is not too long for a frame. Assumes nothing.
+use Rattle.std.specs.Prelude.{None, Option, Some}
 use mathlib.Core.Bool.{Bool}
 use Prim.Native.Nat.{ℕ, ◌-◌, ◌^◌, ◌≤◌, ◌<◌, max}
 use native.Mathlib.Omega.{arith}
@@ -6,8 +7,6 @@ use lib.Dec.{eqb, ltb}
 use borrow.Author.Tests.{ltb-true}
 use Rattle.refusals.specs.Limits.{largest_number}
 use Rattle.writing.proofs.Choose.{by_test}
-use Rattle.numerals.specs.declared.NumericParam.{NumericParam}
-use Rattle.numerals.specs.declared.NumericParam.TheVariants.{Literal, FromArgument}
 use Rattle.binary64.specs.Fields.{exponent_field, fraction_field, scaled_bits}
 use Rattle.binary64.specs.Rounding.{nearest_to}
 use Rattle.binary64.specs.HexFloat.{shortest, carried, rounded, normal_of, subnormal_of, hex_float_of}
@@ -36,25 +35,25 @@ module _ (f e bias : ℕ) (small : e < 2048) (near : bias ≤ 1077) where
   few-rounded p h =
       by_test Few (ltb p 13) _ _ (λ t. few-carried p (nearest_to f (16 ^ (13 - p))) (ltb-true p 13 t)) (λ _. omega arith)
 
-  few_normal : (p : NumericParam) → Within p → Few (normal_of p f e bias)
-  few_normal FromArgument h = few-shortest
-  few_normal (Literal p) h = few-rounded (max p 1) (omega arith)
+  few_normal : (p : Option ℕ) → Within p → Few (normal_of p f e bias)
+  few_normal None h = few-shortest
+  few_normal (Some p) h = few-rounded (max p 1) (omega arith)
 
-few_subnormal : (p : NumericParam) (f : ℕ) → Within p → Few (subnormal_of p f)
-few_subnormal FromArgument f h = omega arith
-few_subnormal (Literal p) f h =
+few_subnormal : (p : Option ℕ) (f : ℕ) → Within p → Few (subnormal_of p f)
+few_subnormal None f h = omega arith
+few_subnormal (Some p) f h =
     let b = scaled_bits f in
     by_test Few (ltb p 13) _ _
-    (λ _. few_normal (fraction_field b) (exponent_field b) 1077 (field_bounds b).0 (omega arith) (Literal p) h) (λ _. omega arith)
+    (λ _. few_normal (fraction_field b) (exponent_field b) 1077 (field_bounds b).0 (omega arith) (Some p) h) (λ _. omega arith)
 
-few_parts : (b : ℕ) (p : NumericParam) → Within p → Few (hex_float_of b p)
+few_parts : (b : ℕ) (p : Option ℕ) → Within p → Few (hex_float_of b p)
 unfolding hex_float_of
 few_parts b p h =
     by_test Few (eqb (exponent_field b) 0) _ _
     (λ _. by_test Few (eqb (fraction_field b) 0) _ _ (λ _. omega arith) (λ _. few_subnormal p (fraction_field b) h))
     (λ _. few_normal (fraction_field b) (exponent_field b) 1023 (field_bounds b).0 (omega arith) p h)
 
-pub float_body : (u : Bool) (b : ℕ) (p : NumericParam) → Within p → Body (hex_float_text u (hex_float_of b p))
+pub float_body : (u : Bool) (b : ℕ) (p : Option ℕ) → Within p → Body (hex_float_text u (hex_float_of b p))
 float_body u b p h = go (hex_float_of b p) (few_parts b p h)
   where
     go : (x : HexFloat) → Few x → Body (hex_float_text u x)

@@ -4,9 +4,9 @@ use mathlib.Core.Path.{◌≡◌, refl}
 use mathlib.Core.Bool.{Bool, true, false, ◌&&◌}
 use native.Mathlib.Omega.{arith}
 use native.Mathlib.Decide.{ℕ_discrete}
-use lib.Dec.{eqb, leb, ltb}
+use lib.Dec.{eqb, leb}
 use borrow.Author.Tests.{eqb-true, leb-true}
-use Rattle.writing.proofs.Choose.{by_test, both}
+use Rattle.writing.proofs.Choose.{both}
 use Rattle.calendar.specs.Dates.{february, month_length, days_of, count_off, month_day}
 use Rattle.calendar.specs.Steps.{evened}
 use Rattle.calendar.proofs.Years.{twelve}
@@ -40,10 +40,6 @@ most_days leap m h = leb-true _ _ (below (short leap) 12 (all_short leap) m h)
 pub longest : (leap : Bool) → days_of (month_length leap) 0 12 ≤ 366
 longest true = omega (arith, twelve true)
 longest false = omega (arith, twelve false)
-
-pub evened-below : (leap : Bool) (k : ℕ) → k < 366 → evened leap k < 368
-evened-below true k h = by_test (λ (n : ℕ). n < 368) (ltb k 60) _ _ (λ t. omega arith) (λ t. omega arith)
-evened-below false k h = by_test (λ (n : ℕ). n < 368) (ltb k 59) _ _ (λ t. omega arith) (λ t. omega arith)
 
 -- The month of a day of a year, and the days of the month before it, on a line.
 abbrev pub month_on : ℕ → ℕ

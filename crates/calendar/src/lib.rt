@@ -31,16 +31,15 @@ struct Counted {
     left: u64,
 }
 
+#[tactic(auto, unfolding(crate::specs::Dates::is_leap))]
 fn is_leap(year: u64) -> bool
     ensures { result ≡ is_leap year }
 {
-    if year % 100 == 0 {
-        return year % 400 == 0;
-    }
-    year % 4 == 0
+    year % 4 == 0 && (year % 100 != 0 || year % 400 == 0)
 }
 
 // The days of the years before this one, from the year 0 on.
+#[tactic(auto, using(crate::proofs::Years::days_before))]
 fn days_before(year: u64) -> u64
     requires { year < 100000 }
     ensures { result ≡ days_of year_length 0 year }
@@ -49,6 +48,7 @@ fn days_before(year: u64) -> u64
 }
 
 // The year of a day, and the days of the year before it. 400 years have 146,097 days, so that the year is at most one too small.
+#[tactic(auto, using(crate::proofs::Estimate::not_behind))]
 fn year_day(day: u64) -> Counted
     requires { (2 ≤ day) × (day < 10000000) }
     ensures { (result.whole ≡ (year_day day).0) × (result.left ≡ (year_day day).1) }
@@ -56,14 +56,15 @@ fn year_day(day: u64) -> Counted
     let year = (day - 2) * 400 / 146097;
     let next = days_before(year + 1);
     if next <= day {
-        return Counted {
+        Counted {
             whole: year + 1,
             left: day - next,
-        };
-    }
-    Counted {
-        whole: year,
-        left: day - days_before(year),
+        }
+    } else {
+        Counted {
+            whole: year,
+            left: day - days_before(year),
+        }
     }
 }
 
@@ -72,19 +73,15 @@ fn evened(leap: bool, day: u64) -> u64
     requires { day < 366 }
     ensures { result ≡ evened leap day }
 {
-    if leap {
-        if day < 60 {
-            return day;
-        }
-        return day + 1;
+    match (leap, day) {
+        (true, 0..60) | (false, 0..59) => day,
+        (true, _) => day + 1,
+        (false, _) => day + 2,
     }
-    if day < 59 {
-        return day;
-    }
-    day + 2
 }
 
 // The month of a day of a year, and the days of the month before it. Where February has 30 days, a line over the months gives where they begin.
+#[tactic(auto, using(crate::proofs::Finite::longest, crate::proofs::Finite::on_the_line))]
 fn month_day(leap: bool, day: u64) -> Counted
     requires { day < days_of (month_length leap) 0 12 }
     ensures { (result.whole ≡ (month_day leap day).0) × (result.left ≡ (month_day leap day).1) }
@@ -104,24 +101,27 @@ struct Seconds {
     nanos: u64,
 }
 
+#[tactic(auto, using(crate::proofs::Epoch::magnitude_within, crate::proofs::Epoch::forward, crate::proofs::Epoch::back))]
 fn seconds_of(timestamp: u64) -> Seconds
     ensures { (result.seconds ≡ since_year0 (int_of 64 timestamp) / 1000000000) × (result.nanos ≡ since_year0 (int_of 64 timestamp) % 1000000000) }
 {
     let magnitude = numerals::integers::magnitude(timestamp);
     if numerals::integers::is_negative(timestamp) {
         let back = (magnitude + 999999999) / 1000000000;
-        return Seconds {
+        Seconds {
             seconds: EPOCH_SECONDS - back,
             nanos: back * 1000000000 - magnitude,
-        };
-    }
-    Seconds {
-        seconds: EPOCH_SECONDS + magnitude / 1000000000,
-        nanos: magnitude % 1000000000,
+        }
+    } else {
+        Seconds {
+            seconds: EPOCH_SECONDS + magnitude / 1000000000,
+            nanos: magnitude % 1000000000,
+        }
     }
 }
 
 // The moment of a timestamp, nanoseconds since 1970-01-01 in 64 bits of two's complement.
+#[tactic(auto, using(crate::proofs::Estimate::in_found_year, crate::proofs::Estimate::in_month, crate::proofs::Finite::longest))]
 pub fn moment_of(timestamp: u64) -> Moment
     ensures { result ≡ moment_of (int_of 64 timestamp) }
 {

@@ -1,13 +1,11 @@
 -- 01, "Cases": "These rows are a table of the definitions, under a lone theorem"; and rows of ours beside them.
-use Rattle.std.specs.Prelude.{ℕ, ◌+◌, ◌-◌, ◌*◌, ◌^◌, Bool, true, false, ◌&&◌, List, [], ◌∷◌, ◌++◌, eqb, length}
+use Rattle.std.specs.Prelude.{ℕ, ◌+◌, ◌-◌, ◌*◌, ◌^◌, Bool, true, false, ◌&&◌, List, [], ◌∷◌, ◌++◌, eqb, length, Ok, Err}
 use Prim.Native.Char.{code}
 use Prim.Native.String.{String, [] as empty, ◌∷◌ as ◌then◌}
 use Rattle.words.specs.LittleEndian.{bytes_of}
 use Rattle.reading.specs.Examples.{same}
 use Rattle.utf8.specs.Scalars.{utf8_of}
-use Rattle.outcomes.specs.Printed.{printed_text, measured}
-use Rattle.outcomes.specs.declared.Outcome.{Outcome}
-use Rattle.outcomes.specs.declared.Outcome.TheVariants.{Accepted, Refused}
+use Rattle.outcomes.specs.Printed.{Outcome, printed_text, measured}
 
 -- the bytes of a text
 abbrev pub utf8 : String → List ℕ
@@ -114,8 +112,8 @@ dates =
 
 -- That a format of one piece prints, and what.
 abbrev pub prints : Outcome → List ℕ → List ℕ → Bool
-prints (Accepted n k) printed text = eqb k 1 && eqb n (length text) && same printed text
-prints (Refused number place) printed text = false
+prints (Ok m) printed text = eqb m.pieces 1 && eqb m.length (length text) && same printed text
+prints (Err stopped) printed text = false
 
 abbrev pub case_row : Case → List ℕ
 case_row c = row_with c.kind c.value (utf8 c.area)

@@ -19,6 +19,8 @@ use Rattle.grammar.proofs.Steps.{KindsKnown}
 use Rattle.rows.specs.Row.{is_row}
 use Rattle.causes.specs.Calls.{Call, checking, measuring, printing, OfRow, measured_row, printed_row}
 use Rattle.causes.specs.Causes.{BadInput, many_kinds, no_kind, broken_row}
+use Rattle.refusals.specs.declared.Refusal.{Refusal}
+use Rattle.refusals.specs.declared.Refusal.TheVariants as R
 
 -- every kind that is listed is known
 pub kind_known : (k : ℕ) → has kinds k ≡ true → is_known (kind_of k) ≡ true
@@ -66,27 +68,27 @@ unknown_one (x ∷ ks) e = go (is_known (kind_of x)) refl e (unknown_one ks)
 
 -- The test of checking's kinds, and 3.
 module _ (s ks : List ℕ) where
-  pub kinds_good : ((number : ℕ) → BadInput (checking s ks) number → ⊥) → (leb (length ks) most_kinds && all_known ks) ≡ true
+  pub kinds_good : ((why : Refusal) → BadInput (checking s ks) why → ⊥) → (leb (length ks) most_kinds && all_known ks) ≡ true
   kinds_good good = go (all_known ks) refl
     where
       few : leb (length ks) most_kinds ≡ true
-      few = elim (dec_lt most_kinds (length ks)) [ yes h ↦ absurd (good 3 (many_kinds h)) | no h ↦ le-leb (length ks) most_kinds (omega arith) ]
+      few = elim (dec_lt most_kinds (length ks)) [ yes h ↦ absurd (good R.BadKinds (many_kinds h)) | no h ↦ le-leb (length ks) most_kinds (omega arith) ]
 
       go : (t : Bool) → all_known ks ≡ t → (leb (length ks) most_kinds && t) ≡ true
       go true q = simp few
-      go false q = let r = unknown_one ks q in absurd (good 3 (no_kind r.k r.among r.unlisted))
+      go false q = let r = unknown_one ks q in absurd (good R.BadKinds (no_kind r.k r.among r.unlisted))
 
-  pub kinds_bad : (number : ℕ) → BadInput (checking s ks) number → ((leb (length ks) most_kinds && all_known ks) ≡ false) × (number ≡ 3)
-  kinds_bad number (many_kinds h) = (simp (lt-leb (length ks) most_kinds h), refl)
+  pub kinds_bad : (why : Refusal) → BadInput (checking s ks) why → ((leb (length ks) most_kinds && all_known ks) ≡ false) × (why ≡ R.BadKinds)
+  kinds_bad why (many_kinds h) = (simp (lt-leb (length ks) most_kinds h), refl)
   kinds_bad _ (broken_row {row = row} x _) = elim x [ ]
-  kinds_bad number (no_kind k h n) = (go (leb (length ks) most_kinds) (all_known ks) refl, refl)
+  kinds_bad why (no_kind k h n) = (go (leb (length ks) most_kinds) (all_known ks) refl, refl)
     where
       go : (a b : Bool) → all_known ks ≡ b → (a && b) ≡ false
       go false b q = refl
       go true false q = refl
       go true true q = absurd (never (sym n ∙ known_kind k (known_has ks k q h)))
 
-  pub bad_kinds : (leb (length ks) most_kinds && all_known ks) ≡ false → BadInput (checking s ks) 3
+  pub bad_kinds : (leb (length ks) most_kinds && all_known ks) ≡ false → BadInput (checking s ks) R.BadKinds
   bad_kinds e = elim (dec_lt most_kinds (length ks)) [
     | yes h ↦ many_kinds h
     | no h ↦ let r = unknown_one ks (rw (le-leb (length ks) most_kinds (omega arith)) at e) in no_kind r.k r.among r.unlisted
@@ -100,12 +102,12 @@ checked-kinds ks e a h i =
     all-has (λ k. has kinds (unmarked k)) kinds k refl (known_kind k (known_at ks (a - 1) e (omega arith)))
 
 -- The row's layout, and 14.
-pub row_good : {call : Call} {row : List ℕ} → OfRow call row → ((number : ℕ) → BadInput call number → ⊥) → is_row row ≡ true
+pub row_good : {call : Call} {row : List ℕ} → OfRow call row → ((why : Refusal) → BadInput call why → ⊥) → is_row row ≡ true
 row_good {call} {row} of good = go (is_row row) refl
   where
     go : (t : Bool) → is_row row ≡ t → t ≡ true
     go true q = refl
-    go false q = absurd (good 14 (broken_row of q))
+    go false q = absurd (good R.BrokenRow (broken_row of q))
 
 same_row : {s row row' : List ℕ} → OfRow (measuring s row) row' → row' ≡ row
 same_row measured_row = refl
@@ -113,8 +115,8 @@ same_row measured_row = refl
 same-printed : {s row row' : List ℕ} {room slots : ℕ} → OfRow (printing s row room slots) row' → row' ≡ row
 same-printed printed_row = refl
 
-pub measured_bad : {s row : List ℕ} (number : ℕ) → BadInput (measuring s row) number → (is_row row ≡ false) × (number ≡ 14)
-measured_bad number (broken_row of h) = (sym (ap is_row (same_row of)) ∙ h, refl)
+pub measured_bad : {s row : List ℕ} (why : Refusal) → BadInput (measuring s row) why → (is_row row ≡ false) × (why ≡ R.BrokenRow)
+measured_bad why (broken_row of h) = (sym (ap is_row (same_row of)) ∙ h, refl)
 
-pub printed_bad : {s row : List ℕ} {room slots : ℕ} (number : ℕ) → BadInput (printing s row room slots) number → (is_row row ≡ false) × (number ≡ 14)
-printed_bad number (broken_row of h) = (sym (ap is_row (same-printed of)) ∙ h, refl)
+pub printed_bad : {s row : List ℕ} {room slots : ℕ} (why : Refusal) → BadInput (printing s row room slots) why → (is_row row ≡ false) × (why ≡ R.BrokenRow)
+printed_bad why (broken_row of h) = (sym (ap is_row (same-printed of)) ∙ h, refl)

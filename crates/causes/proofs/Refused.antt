@@ -1,8 +1,8 @@
 -- A call is refused where a cause holds, with the cause's number and place. Assumes nothing.
+use Rattle.std.specs.Prelude.{Option, None, Some, Err, Ok}
 use mathlib.Core.Path.{◌≡◌, refl, sym, ap, ◌∙◌, subst}
 use mathlib.Core.Bool.{Bool, true, false, ◌&&◌}
 use mathlib.Core.List.{List, [], ◌∷◌}
-use mathlib.Core.Option.{Option, none, some}
 use Prim.Native.Nat.{ℕ, ◌≤◌, ◌<◌}
 use native.Mathlib.Omega.{arith}
 use lib.Dec.{leb}
@@ -15,8 +15,6 @@ use Rattle.utf8.specs.Utf8.{well_formed}
 use Rattle.kinds.specs.Kinds.{unmarked, all_known}
 use Rattle.parsing.specs.Check.{checked_end, checked}
 use Rattle.parsing.specs.Listed.{placed, ended}
-use Rattle.parsing.specs.declared.Checked.TheVariants as C
-use Rattle.parsing.specs.declared.Ended.{Ended}
 use Rattle.grammar.specs.Parts.{Written, Part, text, percent, newline, element}
 use Rattle.grammar.specs.Elements.{kinds, Reads}
 use Rattle.grammar.specs.Readings.{Whole, StopsReading}
@@ -25,31 +23,35 @@ use Rattle.grammar.proofs.Listed.{lists_length}
 use Rattle.grammar.proofs.Readings.{Read, read_whole, stopped_by}
 use Rattle.rows.specs.Row.{count_of, kinds_of, is_row}
 use Rattle.rows.proofs.Rows.{kinds-length, kind_byte}
-use Rattle.outcomes.specs.Printed.{printed_text, Stop, first_stop, unless_stopped, measured_end, measured, if_room, printed, joined}
+use Rattle.outcomes.specs.Printed.{printed_text, first_stop, unless_stopped, measured_end, measured, if_room, printed, joined}
 use Rattle.outcomes.specs.PartTexts.{PartTexts}
 use Rattle.outcomes.proofs.PartTexts.{part_texts}
 use Rattle.outcomes.proofs.Unique.{same-texts}
-use Rattle.outcomes.specs.declared.Outcome.TheVariants.{Accepted, Refused}
 use Rattle.outcomes.proofs.Letters.{row-kinds}
-use Rattle.causes.specs.Calls.{Call, checking, measuring, printing, measured_row, printed_row, Refusal, of_checked, of_outcome, refusal}
+use Rattle.causes.specs.Calls.{Call, checking, measuring, printing, measured_row, printed_row, of_checked, of_outcome, refusal}
 use Rattle.causes.specs.Causes.{AllPrinted, FirstUnprinted, NoRoom, longer_than_output, longer_than_ends_hold, more_pieces, Cause}
 use Rattle.causes.specs.Causes as K
 use Rattle.causes.proofs.Inputs.{kinds_good, kinds_bad, checked-kinds, row_good, measured_bad, printed_bad}
 use Rattle.causes.proofs.Stops.{HasKind, none_stops, first_stops}
+use Rattle.parsing.specs.Listed.{Ended}
+use Rattle.refusals.specs.Numbers.{stop}
+use Rattle.refusals.specs.declared.Refusal.{Refusal}
+use Rattle.refusals.specs.declared.Stop.{Stop}
+use Rattle.refusals.specs.declared.Refusal.TheVariants as R
 
 -- checking, test by test
 module _ (s ks : List ℕ) where
-  pub long-checked : most_format < length s → checked s ks ≡ C.Refused 1 0
+  pub long-checked : most_format < length s → checked s ks ≡ Err (stop R.LongFormat 0)
   unfolding checked
   long-checked h = simp (lt-ltb most_format (length s) h)
 
   module _ (short : length s ≤ most_format) where
-    pub malformed-checked : well_formed s ≡ false → checked s ks ≡ C.Refused 2 0
+    pub malformed-checked : well_formed s ≡ false → checked s ks ≡ Err (stop R.MalformedFormat 0)
     unfolding checked
     malformed-checked f = simp (le-ltb most_format (length s) short, f)
 
     module _ (formed : well_formed s ≡ true) where
-      kinds-checked : (leb (length ks) most_kinds && all_known ks) ≡ false → checked s ks ≡ C.Refused 3 0
+      kinds-checked : (leb (length ks) most_kinds && all_known ks) ≡ false → checked s ks ≡ Err (stop R.BadKinds 0)
       unfolding checked
       kinds-checked k = simp (le-ltb most_format (length s) short, formed, k)
 
@@ -59,17 +61,17 @@ module _ (s ks : List ℕ) where
 
 -- measuring, test by test; printing answers a refusal of measuring
 module _ (s row : List ℕ) where
-  pub long-measured : most_format < length s → measured s row ≡ Refused 1 0
+  pub long-measured : most_format < length s → measured s row ≡ Err (stop R.LongFormat 0)
   unfolding measured
   long-measured h = simp (lt-ltb most_format (length s) h)
 
   module _ (short : length s ≤ most_format) where
-    pub malformed-measured : well_formed s ≡ false → measured s row ≡ Refused 2 0
+    pub malformed-measured : well_formed s ≡ false → measured s row ≡ Err (stop R.MalformedFormat 0)
     unfolding measured
     malformed-measured f = simp (le-ltb most_format (length s) short, f)
 
     module _ (formed : well_formed s ≡ true) where
-      broken_measured : is_row row ≡ false → measured s row ≡ Refused 14 0
+      broken_measured : is_row row ≡ false → measured s row ≡ Err (stop R.BrokenRow 0)
       unfolding measured
       broken_measured b = simp (le-ltb most_format (length s) short, formed, b)
 
@@ -77,7 +79,7 @@ module _ (s row : List ℕ) where
       unfolding measured
       read-measured k = simp (le-ltb most_format (length s) short, formed, k)
 
-  pub refused-printed : (room slots : ℕ) {n p : ℕ} → measured s row ≡ Refused n p → printed s row room slots ≡ Refused n p
+  pub refused-printed : (room slots : ℕ) {n : Refusal} {p : ℕ} → measured s row ≡ Err (stop n p) → printed s row room slots ≡ Err (stop n p)
   unfolding printed
   refused-printed room slots e = ap (if_room room slots) e
 
@@ -99,7 +101,7 @@ module _ (s row : List ℕ) (short : length s ≤ most_format) (formed : well_fo
           let byte = kind_byte row w.argument h.0 few in
           record { known = ap (λ (k : ℕ). has kinds (unmarked k)) (sym byte) ∙ row-kinds row kept w.argument h.0 h.1; in_row = byte }
 
-  stopped_measured : {n p : ℕ} → StopsReading s (kinds_of row) n p → measured s row ≡ Refused n p
+  stopped_measured : {n : Refusal} {p : ℕ} → StopsReading s (kinds_of row) n p → measured s row ≡ Err (stop n p)
   unfolding measured_end
   stopped_measured x = read-measured s row short formed kept ∙ ap (measured_end s row) (stopped_by s (kinds_of row) (row-kinds row kept) x)
 
@@ -108,19 +110,19 @@ module _ (s row : List ℕ) (short : length s ≤ most_format) (formed : well_fo
     whole_read = read_whole s (kinds_of row) (row-kinds row kept) w
 
     whole_measured : (x : Option Stop) → first_stop s row (placed s (kinds_of row)) ≡ x
-        → measured s row ≡ unless_stopped x (Accepted (length (printed_text s row)) (length parts))
+        → measured s row ≡ unless_stopped x (Ok (record { length = length (printed_text s row); pieces = length parts }))
     unfolding measured_end
     whole_measured x e =
         read-measured s row short formed kept
         ∙ ap (measured_end s row) whole_read.finished
-        ∙ ap (λ (t : Option Stop). unless_stopped t (Accepted (length (printed_text s row)) (length (placed s (kinds_of row))))) e
-        ∙ ap (λ (n : ℕ). unless_stopped x (Accepted (length (printed_text s row)) n)) (lists_length whole_read.lists)
+        ∙ ap (λ (t : Option Stop). unless_stopped t (Ok (record { length = length (printed_text s row); pieces = length (placed s (kinds_of row)) }))) e
+        ∙ ap (λ (n : ℕ). unless_stopped x (Ok (record { length = length (printed_text s row); pieces = n }))) (lists_length whole_read.lists)
 
-    unprinted_measured : {n p : ℕ} → FirstUnprinted row parts n p → measured s row ≡ Refused n p
+    unprinted_measured : {n : Refusal} {p : ℕ} → FirstUnprinted row parts n p → measured s row ≡ Err (stop n p)
     unprinted_measured x = whole_measured _ (first_stops s row whole_read.lists (have_kinds w.reads) x)
 
-    pub accepted_measured : AllPrinted row parts → measured s row ≡ Accepted (length (printed_text s row)) (length parts)
-    accepted_measured x = whole_measured none (none_stops s row whole_read.lists (have_kinds w.reads) x)
+    pub accepted_measured : AllPrinted row parts → measured s row ≡ Ok (record { length = length (printed_text s row); pieces = length parts })
+    accepted_measured x = whole_measured None (none_stops s row whole_read.lists (have_kinds w.reads) x)
 
     -- the text is those of the parts, joined
     pub text_is : {ts : List (List ℕ)} → PartTexts row parts ts → joined ts ≡ printed_text s row
@@ -128,7 +130,7 @@ module _ (s row : List ℕ) (short : length s ≤ most_format) (formed : well_fo
     text_is x = ap joined (same-texts row x (part_texts s row kept w))
 
     no_room_printed : {room slots : ℕ} {ts : List (List ℕ)} → AllPrinted row parts → PartTexts row parts ts
-        → NoRoom (length (joined ts)) room slots (length parts) → printed s row room slots ≡ Refused 17 0
+        → NoRoom (length (joined ts)) room slots (length parts) → printed s row room slots ≡ Err (stop R.NoRoom 0)
     unfolding printed
     no_room_printed {room} {slots} x of y =
         ap (if_room room slots) (accepted_measured x) ∙ without (subst (λ (t : List ℕ). NoRoom (length t) room slots (length parts)) (text_is of) y)
@@ -140,21 +142,21 @@ module _ (s row : List ℕ) (short : length s ≤ most_format) (formed : well_fo
         false_last true = refl
         false_last false = refl
 
-        without : NoRoom n room slots (length parts) → if_room room slots (Accepted n (length parts)) ≡ Refused 17 0
+        without : NoRoom n room slots (length parts) → if_room room slots (Ok (record { length = n; pieces = length parts })) ≡ Err (stop R.NoRoom 0)
         without (longer_than_output h) = simp (lt-leb n room h)
         without (longer_than_ends_hold h) = simp (lt-leb n largest_end h, false_last (leb n room))
         without (more_pieces h) = simp (lt-leb (length parts) slots h, false_last (leb n room && leb n largest_end))
 
-abbrev refused_with : ℕ → ℕ → Option Refusal
-refused_with n p = some (record { number = n; place = p })
+abbrev refused_with : Refusal → ℕ → Option Stop
+refused_with n p = Some (stop n p)
 
 -- Of every call.
-pub refuses : (call : Call) {n p : ℕ} → Cause call n p → refusal call ≡ some (record { number = n; place = p })
+pub refuses : (call : Call) {n : Refusal} {p : ℕ} → Cause call n p → refusal call ≡ Some (stop n p)
 refuses (checking s ks) (K.earlier_stop (K.long h)) = ap of_checked (long-checked s ks h)
 refuses (checking s ks) (K.earlier_stop (K.malformed h f)) = ap of_checked (malformed-checked s ks h f)
-refuses (checking s ks) (K.earlier_stop (K.input {number = number} h f b)) =
-    let x = kinds_bad s ks number b in
-    ap of_checked (kinds-checked s ks h f x.0) ∙ ap (λ (n : ℕ). refused_with n 0) (sym x.1)
+refuses (checking s ks) (K.earlier_stop (K.input {why = why} h f b)) =
+    let x = kinds_bad s ks why b in
+    ap of_checked (kinds-checked s ks h f x.0) ∙ ap (λ (n : Refusal). refused_with n 0) (sym x.1)
 refuses (checking s ks) (K.earlier_stop (K.reading b x)) =
     let k = kinds_good s ks b.input in
     let known = checked-kinds ks (both (leb (length ks) most_kinds) (all_known ks) k).1 in
@@ -163,17 +165,17 @@ refuses (checking s ks) (K.earlier_stop (K.reading b x)) =
 refuses (checking s ks) {n = n} {p = p} (K.earlier_stop (K.unprinted {row = row} {parts = parts} b x w u)) = elim x [ ]
 refuses (measuring s row) (K.earlier_stop (K.long h)) = ap of_outcome (long-measured s row h)
 refuses (measuring s row) (K.earlier_stop (K.malformed h f)) = ap of_outcome (malformed-measured s row h f)
-refuses (measuring s row) (K.earlier_stop (K.input {number = number} h f b)) =
-    let x = measured_bad number b in
-    ap of_outcome (broken_measured s row h f x.0) ∙ ap (λ (n : ℕ). refused_with n 0) (sym x.1)
+refuses (measuring s row) (K.earlier_stop (K.input {why = why} h f b)) =
+    let x = measured_bad why b in
+    ap of_outcome (broken_measured s row h f x.0) ∙ ap (λ (n : Refusal). refused_with n 0) (sym x.1)
 refuses (measuring s row) (K.earlier_stop (K.reading b x)) = ap of_outcome (stopped_measured s row b.short b.formed (row_good measured_row b.input) x)
 refuses (measuring s row) (K.earlier_stop (K.unprinted b measured_row w x)) =
     ap of_outcome (unprinted_measured s row b.short b.formed (row_good measured_row b.input) w x)
 refuses (printing s row room slots) (K.earlier_stop (K.long h)) = ap of_outcome (refused-printed s row room slots (long-measured s row h))
 refuses (printing s row room slots) (K.earlier_stop (K.malformed h f)) = ap of_outcome (refused-printed s row room slots (malformed-measured s row h f))
-refuses (printing s row room slots) (K.earlier_stop (K.input {number = number} h f b)) =
-    let x = printed_bad number b in
-    ap of_outcome (refused-printed s row room slots (broken_measured s row h f x.0)) ∙ ap (λ (n : ℕ). refused_with n 0) (sym x.1)
+refuses (printing s row room slots) (K.earlier_stop (K.input {why = why} h f b)) =
+    let x = printed_bad why b in
+    ap of_outcome (refused-printed s row room slots (broken_measured s row h f x.0)) ∙ ap (λ (n : Refusal). refused_with n 0) (sym x.1)
 refuses (printing s row room slots) (K.earlier_stop (K.reading b x)) =
     ap of_outcome (refused-printed s row room slots (stopped_measured s row b.short b.formed (row_good printed_row b.input) x))
 refuses (printing s row room slots) (K.earlier_stop (K.unprinted b printed_row w x)) =

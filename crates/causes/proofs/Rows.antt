@@ -1,5 +1,6 @@
 -- Of a row that keeps its layout: what checking says of a format and the row's kinds, without their null marks, is what measuring does with the row, as far as
 -- reading goes: the same refusals, and the same number of pieces. Assumes nothing.
+use Rattle.std.specs.Prelude.{Err, Ok, Result}
 use mathlib.Core.Path.{◌≡◌, refl, sym, ap, subst, ◌∙◌}
 use mathlib.Core.Bool.{Bool, true, false, ◌&&◌}
 use mathlib.Core.List.{List, [], ◌∷◌}
@@ -15,17 +16,17 @@ use Rattle.kinds.specs.Kinds.{unmarked, kind_of, is_known, all_known}
 use Rattle.parsing.specs.Check.{checked_end, checked}
 use Rattle.parsing.specs.Listed.{placed, ended}
 use Rattle.parsing.specs.declared.Checked.{Checked}
-use Rattle.parsing.specs.declared.Checked.TheVariants as C
-use Rattle.parsing.specs.declared.Ended.{Ended}
-use Rattle.parsing.specs.declared.Ended.TheVariants.{Finished, Stopped}
 use Rattle.grammar.proofs.Marks.{without_marks, as_many, unmarked-placed, unmarked-ended}
 use Rattle.rows.specs.Row.{kinds_of, is_row}
 use Rattle.rows.proofs.Rows.{row_shape, kinds-length}
 use Rattle.outcomes.specs.Printed.{printed_text, first_stop, unless_stopped, measured_end, measured}
-use Rattle.outcomes.specs.declared.Outcome.TheVariants.{Accepted, Refused}
 use Rattle.outcomes.proofs.Letters.{row-kinds}
 use Rattle.causes.proofs.Inputs.{kind_known}
 use Rattle.causes.proofs.Refused.{long-checked, malformed-checked, read-checked, long-measured, malformed-measured, read-measured}
+use Rattle.parsing.specs.Listed.{Ended}
+use Rattle.refusals.specs.Numbers.{stop}
+use Rattle.refusals.specs.declared.Stop.{Stop}
+use Rattle.refusals.specs.declared.Refusal.{Refusal}
 
 all_known_lem : (ks : List ℕ) → ((i : ℕ) → i < length ks → is_known (kind_of (unmarked (get_or ks i 0))) ≡ true) → all_known (without_marks ks) ≡ true
 unfolding all_known
@@ -47,11 +48,11 @@ module _ (s row : List ℕ) (kept : is_row row ≡ true) where
           ap (λ (j : ℕ). is_known (kind_of (unmarked (get_or ks j 0)))) (sym e) ∙ kind_known _ (row-kinds row kept (i + 1) (omega arith) (omega arith))
 
   -- What a check of the kinds says of the row.
-  abbrev Says : Checked → Type 0
-  Says (C.Accepted k m) =
-      (ended s ks ≡ Finished) × (length (placed s ks) ≡ k)
-      × (measured s row ≡ unless_stopped (first_stop s row (placed s ks)) (Accepted (length (printed_text s row)) k))
-  Says (C.Refused n p) = measured s row ≡ Refused n p
+  abbrev Says : Result Checked Stop → Type 0
+  Says (Ok found) =
+      (ended s ks ≡ Ok tt) × (length (placed s ks) ≡ found.pieces)
+      × (measured s row ≡ unless_stopped (first_stop s row (placed s ks)) (Ok (record { length = length (printed_text s row); pieces = found.pieces })))
+  Says (Err t) = measured s row ≡ Err t
 
   says : Says (checked s (without_marks ks))
   unfolding measured_end
@@ -61,8 +62,8 @@ module _ (s row : List ℕ) (kept : is_row row ≡ true) where
   ]
     where
       by_end : length s ≤ most_format → well_formed s ≡ true → (x : Ended) → ended s ks ≡ x → Says (checked_end x (placed s ks))
-      by_end h f Finished q = (q, refl, read-measured s row h f kept ∙ ap (measured_end s row) q)
-      by_end h f (Stopped n p) q = read-measured s row h f kept ∙ ap (measured_end s row) q
+      by_end h f (Ok end) q = (q, refl, read-measured s row h f kept ∙ ap (measured_end s row) q)
+      by_end h f (Err t) q = read-measured s row h f kept ∙ ap (measured_end s row) q
 
       by_form : (t : Bool) → well_formed s ≡ t → length s ≤ most_format → Says (checked s (without_marks ks))
       by_form false f h = subst Says (sym (malformed-checked s (without_marks ks) h f)) (malformed-measured s row h f)
@@ -72,11 +73,11 @@ module _ (s row : List ℕ) (kept : is_row row ≡ true) where
           ∙ ap (checked_end (ended s ks)) (unmarked-placed s ks) in
           subst Says (sym same) (by_end h f (ended s ks) refl)
 
-  pub refused_so : (n p : ℕ) → checked s (without_marks ks) ≡ C.Refused n p → measured s row ≡ Refused n p
+  pub refused_so : (n : Refusal) (p : ℕ) → checked s (without_marks ks) ≡ Err (stop n p) → measured s row ≡ Err (stop n p)
   refused_so n p e = subst Says e says
 
   -- accepted with so many pieces, unless one of them is not printed
-  pub accepted_so : (k m : ℕ) → checked s (without_marks ks) ≡ C.Accepted k m
-      → (ended s ks ≡ Finished) × (length (placed s ks) ≡ k)
-      × (measured s row ≡ unless_stopped (first_stop s row (placed s ks)) (Accepted (length (printed_text s row)) k))
+  pub accepted_so : (k m : ℕ) → checked s (without_marks ks) ≡ Ok (record { pieces = k; largest = m })
+      → (ended s ks ≡ Ok tt) × (length (placed s ks) ≡ k)
+      × (measured s row ≡ unless_stopped (first_stop s row (placed s ks)) (Ok (record { length = length (printed_text s row); pieces = k })))
   accepted_so k m e = subst Says e says

@@ -1,16 +1,15 @@
 -- The first piece that is not printed is the first element that is not printed, from left to right. Assumes nothing.
+use Rattle.std.specs.Prelude.{Option, None, Some}
 use mathlib.Core.Path.{◌≡◌, refl, sym, ap, ◌∙◌}
 use mathlib.Core.Bool.{Bool, true, false}
 use mathlib.Core.List.{List, [], ◌∷◌, ◌++◌}
-use mathlib.Core.Option.{Option, none, some}
 use Prim.Native.Nat.{ℕ, ◌-◌}
 use lib.IntN.{ℤ}
 use lib.ListN.{get_or}
 use Rattle.writing.specs.Text.{ascii, has}
 use Rattle.writing.proofs.Choose.{both}
 use Rattle.numerals.specs.Integers.{int_of}
-use Rattle.kinds.specs.Kinds.{unmarked, kind_in, fit_of}
-use Rattle.kinds.specs.declared.Fit.TheVariants.{Fits}
+use Rattle.kinds.specs.Kinds.{unmarked, kind_in, fit_in}
 use Rattle.specifiers.specs.declared.Element.{Element}
 use Rattle.parsing.specs.Listed.{Placed}
 use Rattle.parsing.specs.declared.Piece.{Piece}
@@ -28,10 +27,15 @@ use Rattle.rows.specs.Row.{kinds_of, named_text, kind_byte_of, entry_at}
 use Rattle.rows.specs.declared.entries.Entry.{Entry}
 use Rattle.elements.specs.Texts.{element_text, stop_of}
 use Rattle.elements.specs.PieceTexts.{shown_entry, shown_piece, piece_stop}
-use Rattle.outcomes.specs.Printed.{Stop, stop_at, first_stop}
+use Rattle.outcomes.specs.Printed.{stop_at, first_stop}
 use Rattle.causes.specs.Causes.{is_printed, is_scalar_value, is_between_seconds, Unprinted, not_printed, no_scalar, no_whole_second}
 use Rattle.causes.specs.Causes.{PartPrinted, AllPrinted, FirstUnprinted, here, earlier}
 use Rattle.causes.proofs.Unprinted.{is_character, is_date, Shows, shows, stop, stops_15, stops_16, stops_18, goes_on}
+use Rattle.refusals.specs.declared.Stop.{Stop}
+use Rattle.refusals.specs.declared.Refusal.{Refusal}
+use Rattle.refusals.specs.declared.Stop.{Stop}
+use Rattle.refusals.specs.declared.Refusal.TheVariants as R
+use Rattle.refusals.specs.Numbers.{stop as stop_with}
 
 -- An element of a row whose kind is known, and is the one that it was read against.
 pub record HasKind (row : List ℕ) (w : Written) : Type 0 where
@@ -45,8 +49,8 @@ module _ (s row : List ℕ) (e : Element) (w : Written) (is : ElementIs (kinds_o
   abbrev part : List ℕ
   part = cut_to e.precision (named_text row x)
 
-  suits : fit_of e.conversion (kind_in (kind_byte_of row w.argument)) ≡ Fits e.form
-  suits = ap (λ (b : ℕ). fit_of e.conversion (kind_in b)) (sym of_row.in_row) ∙ is.form
+  suits : fit_in e.conversion (kind_in (kind_byte_of row w.argument)) ≡ Some e.form
+  suits = ap (λ (b : ℕ). fit_in e.conversion (kind_in b)) (sym of_row.in_row) ∙ is.form
 
   shown_so : Shows w.letter (unmarked (kind_byte_of row w.argument)) e.form
   shown_so = shows w.letter e.conversion (unmarked (kind_byte_of row w.argument)) e.form is.conversion of_row.known suits
@@ -55,14 +59,14 @@ module _ (s row : List ℕ) (e : Element) (w : Written) (is : ElementIs (kinds_o
   unfolding shown_piece element_text
   stop_so = ap (λ (a : ℕ). stop_of (shown_entry row e (entry_at row a))) is.argument
 
-  unprinted_stops : (n : ℕ) → Unprinted row w n → piece_stop s row (AnElement e) ≡ some n
+  unprinted_stops : (n : Refusal) → Unprinted row w n → piece_stop s row (AnElement e) ≡ Some n
   unfolding entry_at
   unprinted_stops n (not_printed h) = stop_so ∙ stops_15 e x part e.form (sym shown_so.printed ∙ h)
   unprinted_stops n (no_scalar p c null z) =
       stop_so ∙ stops_16 e x part e.conversion e.form suits (sym shown_so.character ∙ simp (c, p)) null z
   unprinted_stops n (no_whole_second p t z) = stop_so ∙ stops_18 e x part e.form (sym shown_so.date ∙ simp (t, p)) z
 
-  printed_goes : ((n : ℕ) → Unprinted row w n → ⊥) → piece_stop s row (AnElement e) ≡ none
+  printed_goes : ((n : Refusal) → Unprinted row w n → ⊥) → piece_stop s row (AnElement e) ≡ None
   unfolding entry_at
   printed_goes none_of = stop_so ∙ goes_on e x part e.conversion e.form suits (sym shown_so.printed ∙ printed) scalar whole
     where
@@ -71,7 +75,7 @@ module _ (s row : List ℕ) (e : Element) (w : Written) (is : ElementIs (kinds_o
         where
           go : (t : Bool) → is_printed row w ≡ t → t ≡ true
           go true q = refl
-          go false q = absurd (none_of 15 (not_printed q))
+          go false q = absurd (none_of R.NotPrinted (not_printed q))
 
       scalar : is_character e.form ≡ true → x.null ≡ false → is_scalar_value (integer_in x) ≡ true
       scalar c null =
@@ -79,7 +83,7 @@ module _ (s row : List ℕ) (e : Element) (w : Written) (is : ElementIs (kinds_o
         where
           go : (t : Bool) → is_scalar_value (integer_in x) ≡ t → begins (has (ascii "cC")) w.letter ≡ true → t ≡ true
           go true q b = refl
-          go false q b = absurd (none_of 16 (no_scalar printed b null q))
+          go false q b = absurd (none_of R.NoScalar (no_scalar printed b null q))
 
       whole : is_date e.form ≡ true → is_between_seconds (int_of 64 x.value) ≡ false
       whole d =
@@ -87,12 +91,12 @@ module _ (s row : List ℕ) (e : Element) (w : Written) (is : ElementIs (kinds_o
         where
           go : (t : Bool) → is_between_seconds (int_of 64 x.value) ≡ t → begins (has (ascii "tT")) w.letter ≡ true → t ≡ false
           go false q b = refl
-          go true q b = absurd (none_of 18 (no_whole_second printed b q))
+          go true q b = absurd (none_of R.NoWholeSecond (no_whole_second printed b q))
 
 -- Whether an element is printed, and whether all of some parts are, can be told.
-pub data Told (P : Type 0) (Q : ℕ → ℕ → Type 0) : Type 0 where
+pub data Told (P : Type 0) (Q : Refusal → ℕ → Type 0) : Type 0 where
   fine : P → Told P Q
-  found : {n p : ℕ} → Q n p → Told P Q
+  found : {n : Refusal} {p : ℕ} → Q n p → Told P Q
 
 module _ (row : List ℕ) where
   -- A letter that prints is none of %c's and none of dates', or it is of one of them, and then its value decides.
@@ -111,13 +115,13 @@ module _ (row : List ℕ) where
       by_date p scalar true true d b = found {p = 0} (no_whole_second p d b)
       by_date p scalar true false d b = fine (λ n u. against n u)
         where
-          against : (n : ℕ) → Unprinted row w n → ⊥
+          against : (n : Refusal) → Unprinted row w n → ⊥
           against n (not_printed h) = never (sym h ∙ p)
           against n (no_scalar x y m l) = scalar y m l
           against n (no_whole_second x y l) = never (sym b ∙ l)
       by_date p scalar false t d b = fine (λ n u. against n u)
         where
-          against : (n : ℕ) → Unprinted row w n → ⊥
+          against : (n : Refusal) → Unprinted row w n → ⊥
           against n (not_printed h) = never (sym h ∙ p)
           against n (no_scalar x y m l) = scalar y m l
           against n (no_whole_second x y l) = never (sym d ∙ y)
@@ -153,22 +157,22 @@ module _ (row : List ℕ) where
 -- The first piece of a list that is not printed, where one more stands behind it.
 module _ (s row : List ℕ) where
   abbrev or_else : Option Stop → Option Stop → Option Stop
-  or_else none x = x
-  or_else (some t) x = some t
+  or_else None x = x
+  or_else (Some t) x = Some t
 
   first_snoc : (ps : List Placed) (x : Placed) → first_stop s row (ps ++ (x ∷ []))
-      ≡ or_else (first_stop s row ps) (stop_at (piece_stop s row x.piece) x.from none)
+      ≡ or_else (first_stop s row ps) (stop_at (piece_stop s row x.piece) x.from None)
   unfolding first_stop
   first_snoc [] x = refl
   first_snoc (y ∷ ps) x = go (piece_stop s row y.piece) (first_snoc ps x)
     where
-      go : (t : Option ℕ) → first_stop s row (ps ++ (x ∷ [])) ≡ or_else (first_stop s row ps) (stop_at (piece_stop s row x.piece) x.from none)
+      go : (t : Option Refusal) → first_stop s row (ps ++ (x ∷ [])) ≡ or_else (first_stop s row ps) (stop_at (piece_stop s row x.piece) x.from None)
           → stop_at t y.from (first_stop s row (ps ++ (x ∷ [])))
-          ≡ or_else (stop_at t y.from (first_stop s row ps)) (stop_at (piece_stop s row x.piece) x.from none)
-      go none e = e
-      go (some n) e = refl
+          ≡ or_else (stop_at t y.from (first_stop s row ps)) (stop_at (piece_stop s row x.piece) x.from None)
+      go None e = e
+      go (Some n) e = refl
 
-  piece_goes : {at : ℕ} {x : Piece} {p : Part} → PieceIs (kinds_of row) at x p → OfElement (HasKind row) p → PartPrinted row p → piece_stop s row x ≡ none
+  piece_goes : {at : ℕ} {x : Piece} {p : Part} → PieceIs (kinds_of row) at x p → OfElement (HasKind row) p → PartPrinted row p → piece_stop s row x ≡ None
   unfolding shown_piece
   piece_goes (Q.is_text_part e f) known h = refl
   piece_goes (Q.is_percent e f) known h = refl
@@ -176,28 +180,28 @@ module _ (s row : List ℕ) where
   piece_goes (Q.is_element {e} {w} is) known h = printed_goes s row e w is known h
 
   pub none_stops : {ps : List Placed} {parts : List Part} → Lists (kinds_of row) ps parts → Each (HasKind row) parts → AllPrinted row parts
-      → first_stop s row ps ≡ none
+      → first_stop s row ps ≡ None
   unfolding first_stop
   none_stops Q.nothing known h = refl
   none_stops (Q.one {ps} {before} {x} {p} l is from to) known h =
       first_snoc ps x
-      ∙ ap (λ (t : Option Stop). or_else t (stop_at (piece_stop s row x.piece) x.from none)) (none_stops l known.1 h.1)
-      ∙ ap (λ (t : Option ℕ). stop_at t x.from none) (piece_goes is known.0 h.0)
+      ∙ ap (λ (t : Option Stop). or_else t (stop_at (piece_stop s row x.piece) x.from None)) (none_stops l known.1 h.1)
+      ∙ ap (λ (t : Option Refusal). stop_at t x.from None) (piece_goes is known.0 h.0)
 
-  abbrev stop_on : ℕ → ℕ → Option Stop
-  stop_on n p = some (record { number = n; place = p })
+  abbrev stop_on : Refusal → ℕ → Option Stop
+  stop_on n p = Some (stop_with n p)
 
-  pub first_stops : {ps : List Placed} {parts : List Part} {n p : ℕ} → Lists (kinds_of row) ps parts → Each (HasKind row) parts → FirstUnprinted row parts n p
+  pub first_stops : {ps : List Placed} {parts : List Part} {n : Refusal} {p : ℕ} → Lists (kinds_of row) ps parts → Each (HasKind row) parts → FirstUnprinted row parts n p
       → first_stop s row ps ≡ stop_on n p
   first_stops {n = n} {p = p} Q.nothing known u = elim u [ ]
   first_stops (Q.one {ps} {before} {x} l is from to) known (earlier u) =
-      first_snoc ps x ∙ ap (λ (t : Option Stop). or_else t (stop_at (piece_stop s row x.piece) x.from none)) (first_stops l known.1 u)
+      first_snoc ps x ∙ ap (λ (t : Option Stop). or_else t (stop_at (piece_stop s row x.piece) x.from None)) (first_stops l known.1 u)
   first_stops {n = n} (Q.one {ps} {before} {x} l is from to) known (here u h) =
       first_snoc ps x
-      ∙ ap (λ (t : Option Stop). or_else t (stop_at (piece_stop s row x.piece) x.from none)) (none_stops l known.1 h)
-      ∙ ap (λ (t : Option ℕ). stop_at t x.from none) (piece_stops is known.0 u)
+      ∙ ap (λ (t : Option Stop). or_else t (stop_at (piece_stop s row x.piece) x.from None)) (none_stops l known.1 h)
+      ∙ ap (λ (t : Option Refusal). stop_at t x.from None) (piece_stops is known.0 u)
       ∙ ap (stop_on n) from
     where
-      piece_stops : {at : ℕ} {y : Piece} {w : Written} {n : ℕ} → PieceIs (kinds_of row) at y (element w) → HasKind row w → Unprinted row w n
-          → piece_stop s row y ≡ some n
+      piece_stops : {at : ℕ} {y : Piece} {w : Written} {n : Refusal} → PieceIs (kinds_of row) at y (element w) → HasKind row w → Unprinted row w n
+          → piece_stop s row y ≡ Some n
       piece_stops (Q.is_element {e} {w} is) known u = unprinted_stops s row e w is known _ u

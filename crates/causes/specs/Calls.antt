@@ -1,13 +1,11 @@
 -- The calls that 01 speaks of, and the refusals that the definitions of their answers give. For laws alone.
-use Rattle.std.specs.Prelude.{ℕ, List}
-use Rattle.std.proofs.Math.Option.{Option, none, some}
+use Rattle.std.specs.Prelude.{ℕ, List, Option, None, Some, Err, Ok, Result}
 use Rattle.parsing.specs.Check.{checked}
 use Rattle.parsing.specs.declared.Checked.{Checked}
-use Rattle.parsing.specs.declared.Checked.TheVariants as C
 use Rattle.rows.specs.Row.{kinds_of}
 use Rattle.outcomes.specs.Printed.{measured, printed}
-use Rattle.outcomes.specs.declared.Outcome.{Outcome}
-use Rattle.outcomes.specs.declared.Outcome.TheVariants as O
+use Rattle.outcomes.specs.Printed.{Outcome}
+use Rattle.refusals.specs.declared.Stop.{Stop}
 
 -- Checking a format against kinds; measuring a row under a format; printing it into so many bytes and ends.
 pub data Call : Type 0 where
@@ -32,19 +30,15 @@ pub data OfRow : Call → List ℕ → Type 0 where
   printed_row : {s row : List ℕ} {room slots : ℕ} → OfRow (printing s row room slots) row
 
 -- "number, place": what a call is refused with; none where it is accepted.
-pub record Refusal : Type 0 where
-  pub number : ℕ
-  pub place : ℕ
+abbrev pub of_checked : Result Checked Stop → Option Stop
+of_checked (Ok found) = None
+of_checked (Err t) = Some t
 
-abbrev pub of_checked : Checked → Option Refusal
-of_checked (C.Accepted pieces largest) = none
-of_checked (C.Refused number place) = some (record { number = number; place = place })
+abbrev pub of_outcome : Outcome → Option Stop
+of_outcome (Ok found) = None
+of_outcome (Err t) = Some t
 
-abbrev pub of_outcome : Outcome → Option Refusal
-of_outcome (O.Accepted n k) = none
-of_outcome (O.Refused number place) = some (record { number = number; place = place })
-
-abbrev pub refusal : Call → Option Refusal
+abbrev pub refusal : Call → Option Stop
 refusal (checking s ks) = of_checked (checked s ks)
 refusal (measuring s row) = of_outcome (measured s row)
 refusal (printing s row room slots) = of_outcome (printed s row room slots)

@@ -1,10 +1,10 @@
 -- The piece of every element that prints a value of a row, read back, denotes the value. Assumes nothing.
+use Rattle.std.specs.Prelude.{None, Some, Option}
 use Prim.Native.Nat.{ℕ, ◌%◌, ◌^◌, ◌<◌}
 use Prim.Native.Char.{code}
 use mathlib.Core.Path.{◌≡◌, sym, subst}
 use mathlib.Core.Bool.{Bool, true, false}
 use mathlib.Core.List.{List, []}
-use mathlib.Core.Option.{none}
 use native.Mathlib.Omega.{arith}
 use Rattle.writing.specs.Choose.{choose}
 use Rattle.writing.specs.Text.{ascii, has}
@@ -15,7 +15,7 @@ use Rattle.binary64.specs.Fields.{category_of}
 use Rattle.binary64.specs.declared.FpCategory.{FpCategory}
 use Rattle.binary64.specs.declared.FpCategory.TheVariants.{Finite}
 use Rattle.reading.specs.Reading.{Integer, Bits, read_piece}
-use Rattle.kinds.specs.Kinds.{integers_alone, fit_of}
+use Rattle.kinds.specs.Kinds.{fit_in}
 use Rattle.kinds.specs.declared.letters.ConversionType.{ConversionType}
 use Rattle.kinds.specs.declared.letters.ConversionType.TheVariants as C
 use Rattle.kinds.specs.declared.IntegerKind.{IntegerKind}
@@ -25,7 +25,6 @@ use Rattle.kinds.specs.declared.IntegerForm.{IntegerForm}
 use Rattle.kinds.specs.declared.IntegerForm.TheVariants.{Numeral, Scalar, Digits}
 use Rattle.kinds.specs.declared.Form.{Form}
 use Rattle.kinds.specs.declared.Form.TheVariants as F
-use Rattle.kinds.specs.declared.Fit.TheVariants.{Fits, Unfit}
 use Rattle.kinds.proofs.Tables.{OfForm, form_of}
 use Rattle.specifiers.specs.declared.Element.{Element}
 use Rattle.rows.specs.Entry.{is_entry, integer_kind_of, integer_in}
@@ -60,25 +59,25 @@ OwnBits v true k = Unit {0}
 OwnBits v false k = v % 2 ^ k.width ≡ bits_of k.width (integer_of k.signed v)
 
 -- of a kind, where it is an integer's
-abbrev Own : ℕ → Bool → Kind → Type 0
-Own v null (K.Integer k) = OwnBits v null k
-Own v null K.Float64 = Unit {0}
-Own v null K.Boolean = Unit {0}
-Own v null K.Text = Unit {0}
-Own v null K.Timestamp = Unit {0}
-Own v null K.NoKind = Unit {0}
+abbrev Own : ℕ → Bool → Option Kind → Type 0
+Own v null (Some (K.Integer k)) = OwnBits v null k
+Own v null (Some K.Float64) = Unit {0}
+Own v null (Some K.Boolean) = Unit {0}
+Own v null (Some K.Text) = Unit {0}
+Own v null (Some K.Timestamp) = Unit {0}
+Own v null None = Unit {0}
 
 -- of an entry of a row
-own_entry : (v : ℕ) (b : v < 2 ^ 64) (text : List ℕ) (k : Kind) (null : Bool) → HasWidth k
+own_entry : (v : ℕ) (b : v < 2 ^ 64) (text : List ℕ) (k : Option Kind) (null : Bool) → HasWidth k
     → is_entry text (record { kind = k; null = null; value = v }) ≡ true → Own v null k
 unfolding is_entry
-own_entry v b text (K.Integer k) false w h = own_bits k.width k.signed v w.0 w.1 b h
-own_entry v b text (K.Integer k) true w h = tt
-own_entry v b text K.Float64 null w h = tt
-own_entry v b text K.Boolean null w h = tt
-own_entry v b text K.Text null w h = tt
-own_entry v b text K.Timestamp null w h = tt
-own_entry v b text K.NoKind null w h = tt
+own_entry v b text (Some (K.Integer k)) false w h = own_bits k.width k.signed v w.0 w.1 b h
+own_entry v b text (Some (K.Integer k)) true w h = tt
+own_entry v b text (Some K.Float64) null w h = tt
+own_entry v b text (Some K.Boolean) null w h = tt
+own_entry v b text (Some K.Text) null w h = tt
+own_entry v b text (Some K.Timestamp) null w h = tt
+own_entry v b text None null w h = tt
 
 -- by its form
 module _ (e : Element) (x : Entry) (part : List ℕ) where
@@ -95,7 +94,7 @@ module _ (e : Element) (x : Entry) (part : List ℕ) where
   integer-value true f k h = tt
 
   -- of every element
-  element-read : fit_of e.conversion x.kind ≡ Fits e.form → Own x.value x.null x.kind
+  element-read : fit_in e.conversion x.kind ≡ Some e.form → Own x.value x.null x.kind
       → ShownRead (ValueRead e e.form x.null x.value) (element_text e x part)
   unfolding element_text
   element-read q =
@@ -109,17 +108,17 @@ module _ (e : Element) (x : Entry) (part : List ℕ) where
       Read : Form → Type 0
       Read f = ShownRead (ValueRead e f x.null x.value) (value_text e f x cut)
 
-unstopped : (R : List ℕ → Type 0) (x : Shown) → ShownRead R x → stop_of x ≡ none → R (shownText x)
+unstopped : (R : List ℕ → Type 0) (x : Shown) → ShownRead R x → stop_of x ≡ None → R (shownText x)
 unstopped R (Text t) h e = h
 unstopped R (Stops n) h e = absurd (let z : ◌≡◌ {A = ℕ} 0 1 = cc in omega arith)
 
 -- What was read by its form was read by its letter.
-module _ (e : Element) (x : Entry) (suits : fit_of e.conversion x.kind ≡ Fits e.form) (t : List ℕ)
+module _ (e : Element) (x : Entry) (suits : fit_in e.conversion x.kind ≡ Some e.form) (t : List ℕ)
     (read : ValueRead e e.form x.null x.value t) where
-  with_letter : (c : ConversionType) → e.conversion ≡ c → fit_of c x.kind ≡ Fits e.form
-  with_letter c q = subst (λ (d : ConversionType). fit_of d x.kind ≡ Fits e.form) q suits
+  with_letter : (c : ConversionType) → e.conversion ≡ c → fit_in c x.kind ≡ Some e.form
+  with_letter c q = subst (λ (d : ConversionType). fit_in d x.kind ≡ Some e.form) q suits
 
-  unfit : {f : Form} → Unfit ≡ Fits f → ⊥
+  unfit : {f : Form} → ◌≡◌ {A = Option Form} None (Some f) → ⊥
   unfit q = let z : ◌≡◌ {A = ℕ} 0 1 = cc in omega arith
 
   -- a numeral of an integer kind; no other kind fits
@@ -127,29 +126,31 @@ module _ (e : Element) (x : Entry) (suits : fit_of e.conversion x.kind ≡ Fits 
       → NumeralRead r (integer_kind_of x.kind).width (integer_in x) (read_piece (numeral_letter r e.upper) t)
   numeral r c n = each x.kind (with_letter (C.Integer r) c) (subst (λ (b : Bool). ValueRead e e.form b x.value t) n read)
     where
-      each : (k : Kind) → integers_alone (Numeral r) k ≡ Fits e.form → ValueRead e e.form false x.value t
+      each : (k : Option Kind) → fit_in (C.Integer r) k ≡ Some e.form → ValueRead e e.form false x.value t
           → NumeralRead r (integer_kind_of k).width (integer_of (integer_kind_of k).signed x.value) (read_piece (numeral_letter r e.upper) t)
-      each (K.Integer k) q h = let f : e.form ≡ F.Integer (Numeral r) k = cc in subst (λ (f : Form). ValueRead e f false x.value t) f h
-      each K.Float64 q h = absurd (unfit q)
-      each K.Boolean q h = absurd (unfit q)
-      each K.Text q h = absurd (unfit q)
-      each K.Timestamp q h = absurd (unfit q)
-      each K.NoKind q h = absurd (unfit q)
+      each (Some (K.Integer k)) q h =
+          let f : e.form ≡ F.Integer (Numeral r) k = cc in
+          subst (λ (f : Form). ValueRead e f false x.value t) f h
+      each (Some K.Float64) q h = absurd (unfit q)
+      each (Some K.Boolean) q h = absurd (unfit q)
+      each (Some K.Text) q h = absurd (unfit q)
+      each (Some K.Timestamp) q h = absurd (unfit q)
+      each None q h = absurd (unfit q)
 
   finite : e.conversion ≡ C.HexFloat → category_of x.value ≡ Finite → FloatRead x.value e.precision (read_piece (float_letter e.upper) t)
   finite c q = each x.kind (with_letter C.HexFloat c) read
     where
-      each : (k : Kind) → fit_of C.HexFloat k ≡ Fits e.form → ValueRead e e.form x.null x.value t
+      each : (k : Option Kind) → fit_in C.HexFloat k ≡ Some e.form → ValueRead e e.form x.null x.value t
           → FloatRead x.value e.precision (read_piece (float_letter e.upper) t)
-      each (K.Integer k) p h = let f : e.form ≡ F.NotPrinted = cc in absurd (subst (λ (f : Form). ValueRead e f x.null x.value t) f h)
-      each K.Float64 p h =
+      each (Some (K.Integer k)) p h = let f : e.form ≡ F.NotPrinted = cc in absurd (subst (λ (f : Form). ValueRead e f x.null x.value t) f h)
+      each (Some K.Float64) p h =
           let f : e.form ≡ F.HexFloat = cc in
           subst (λ (y : FpCategory). FiniteRead y x.value e.precision (read_piece (float_letter e.upper) t)) q
           (subst (λ (f : Form). ValueRead e f x.null x.value t) f h)
-      each K.Boolean p h = absurd (unfit p)
-      each K.Text p h = absurd (unfit p)
-      each K.Timestamp p h = absurd (unfit p)
-      each K.NoKind p h = absurd (unfit p)
+      each (Some K.Boolean) p h = absurd (unfit p)
+      each (Some K.Text) p h = absurd (unfit p)
+      each (Some K.Timestamp) p h = absurd (unfit p)
+      each None p h = absurd (unfit p)
 
   by_letter : (letter : ℕ) → NamedBy letter e.conversion e.upper → ReadsBack letter x e.precision t
   unfolding has
@@ -199,7 +200,7 @@ module _ (e : Element) (x : Entry) (suits : fit_of e.conversion x.kind ≡ Fits 
 
 -- Of every element that takes an argument of a row that keeps its layout, where nothing stops it: it reads back by its letter.
 pub reads-back : (row : List ℕ) → AllBytes row → (e : Element) → Suited row e → (part : List ℕ)
-    → stop_of (element_text e (entry_at row e.argument) part) ≡ none → (letter : ℕ) → NamedBy letter e.conversion e.upper
+    → stop_of (element_text e (entry_at row e.argument) part) ≡ None → (letter : ℕ) → NamedBy letter e.conversion e.upper
     → ReadsBack letter (entry_at row e.argument) e.precision (shownText (element_text e (entry_at row e.argument) part))
 unfolding entry_at
 reads-back row bytes e suits part stop =

@@ -1,4 +1,5 @@
 -- What the piece of a value says, read back, by the form in which it is printed. The laws of this crate go by forms; what is claimed goes by letters.
+use Rattle.std.specs.Prelude.{Option}
 use Prim.Native.Nat.{ℕ}
 use Prim.Native.Char.{code}
 use mathlib.Core.Path.{◌≡◌}
@@ -7,7 +8,6 @@ use mathlib.Core.List.{List}
 use lib.IntN.{ℤ}
 use Rattle.writing.specs.Choose.{choose}
 use Rattle.numerals.specs.Integers.{integer_of, bits_of}
-use Rattle.numerals.specs.declared.NumericParam.{NumericParam}
 use Rattle.binary64.specs.Fields.{category_of}
 use Rattle.binary64.specs.declared.FpCategory.{FpCategory}
 use Rattle.binary64.specs.declared.FpCategory.TheVariants as C
@@ -38,7 +38,7 @@ NumeralRead R.Octal w z r = r ≡ Bits (bits_of w z)
 NumeralRead R.Hexadecimal w z r = r ≡ Bits (bits_of w z)
 
 -- %a and %A of a float: a NaN and an infinity have no number to read.
-abbrev pub FiniteRead : FpCategory → ℕ → NumericParam → Reading → Type 0
+abbrev pub FiniteRead : FpCategory → ℕ → Option ℕ → Reading → Type 0
 FiniteRead C.Nan b p r = Unit {0}
 FiniteRead C.Infinite b p r = Unit {0}
 FiniteRead C.Finite b p r = FloatRead b p r

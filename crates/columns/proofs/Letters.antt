@@ -1,7 +1,8 @@
 -- The letter that stands in a format says in which form a value is printed. Assumes nothing.
+use Rattle.std.specs.Prelude.{Ok}
 use Prim.Native.Nat.{ℕ}
 use Prim.Native.Char.{code}
-use mathlib.Core.Path.{◌≡◌, refl, sym, ◌∙◌}
+use mathlib.Core.Path.{ap, ◌≡◌, refl, sym, ◌∙◌}
 use mathlib.Core.Bool.{Bool, true, false, ◌||◌}
 use mathlib.Core.List.{List, [], ◌∷◌}
 use lib.Dec.{eqb}
@@ -12,11 +13,11 @@ use Rattle.kinds.specs.declared.letters.ConversionType.{ConversionType}
 use Rattle.kinds.specs.declared.letters.ConversionType.TheVariants.{Integer, HexFloat}
 use Rattle.numerals.specs.declared.Radix.TheVariants as R
 use Rattle.specifiers.specs.Specifier.{letter_from}
-use Rattle.specifiers.specs.declared.LetterTaken.TheVariants as L
+use Rattle.refusals.proofs.Parsed.{same_read}
 
 -- That a letter names a conversion, in capitals or not.
 abbrev pub NamedBy : ℕ → ConversionType → Bool → Type 0
-NamedBy letter c u = letter_from (letter ∷ []) 0 ≡ L.Read c u 1
+NamedBy letter c u = letter_from (letter ∷ []) 0 ≡ Ok ((c, u), 1)
 
 -- one of the bytes of a text
 pub among : (P : ℕ → Type 0) (b : ℕ) (bs : List ℕ) (x : ℕ) → (b ≡ x → P x) → (has bs x ≡ true → P x) → has (b ∷ bs) x ≡ true → P x
@@ -28,8 +29,8 @@ among P b bs x f g = go (eqb b x) refl
     go false e h = g h
 
 module _ {c : ConversionType} {u : Bool} where
-  named : (letter : ℕ) (d : ConversionType) (v : Bool) → NamedBy letter c u → letter_from (letter ∷ []) 0 ≡ L.Read d v 1 → (c ≡ d) × (u ≡ v)
-  named letter d v e read = let q = sym e ∙ read in (cc, cc)
+  named : (letter : ℕ) (d : ConversionType) (v : Bool) → NamedBy letter c u → letter_from (letter ∷ []) 0 ≡ Ok ((d, v), 1) → (c ≡ d) × (u ≡ v)
+  named letter d v e read = let q = (same_read (sym e ∙ read)).0 in (ap (λ (l : ConversionType × Bool). l.0) q, ap (λ (l : ConversionType × Bool). l.1) q)
 
   pub is-decimal : NamedBy (code "d") c u → (c ≡ Integer R.Decimal) × (u ≡ false)
   unfolding small_of

@@ -1,4 +1,2 @@
-mod Shown
-mod Numbers
 pub mod Symbols
 pub mod Patterns

@@ -1,4 +1,5 @@
 -- A component that is not composed is the letter that names it. Assumes nothing.
+use Rattle.std.specs.Prelude.{None, Some}
 use mathlib.Core.Path.{◌≡◌, refl, sym, ap, ◌∙◌}
 use mathlib.Core.Bool.{Bool, true, false, ◌&&◌, ◌||◌}
 use mathlib.Core.List.{List, [], ◌∷◌}
@@ -12,7 +13,6 @@ use Rattle.writing.specs.Text.{ascii, has}
 use Rattle.writing.proofs.Choose.{both}
 use Rattle.kinds.specs.Letters.{lookup, time_letters, time_of}
 use Rattle.kinds.specs.declared.letters.TimeFormat.{TimeFormat}
-use Rattle.kinds.specs.declared.letters.TimeLetter.TheVariants.{Component, NoComponent}
 use Rattle.dates.specs.Components.{pattern_of}
 
 -- Java's "common date/time compositions", and what stands for any other letter: itself, with the letter of a sign before it for s and Q; 01: "`h` read as `b`".
@@ -54,13 +54,13 @@ own-rows : all_own time_letters ≡ true
 unfolding has
 own-rows = refl
 
-in_table : (rows : List (Char × TimeFormat)) → all_own rows ≡ true → (b : ℕ) (y : TimeFormat) → lookup code Component NoComponent rows b ≡ Component y
+in_table : (rows : List (Char × TimeFormat)) → all_own rows ≡ true → (b : ℕ) (y : TimeFormat) → lookup code Some None rows b ≡ Some y
     → has composed b ≡ false → pattern_of y ≡ own_letter b
 in_table [] o b y e h = absurd (let z : ◌≡◌ {A = ℕ} 0 1 = cc in omega arith)
 in_table (r ∷ rows) o b y e h = go (eqb b (code r.0)) refl e (λ f. in_table rows (both (owns r) (all_own rows) o).1 b y f h)
   where
-    go : (t : Bool) → eqb b (code r.0) ≡ t → choose t (λ _. Component r.1) (λ _. lookup code Component NoComponent rows b) ≡ Component y
-        → (lookup code Component NoComponent rows b ≡ Component y → pattern_of y ≡ own_letter b) → pattern_of y ≡ own_letter b
+    go : (t : Bool) → eqb b (code r.0) ≡ t → choose t (λ _. Some r.1) (λ _. lookup code Some None rows b) ≡ Some y
+        → (lookup code Some None rows b ≡ Some y → pattern_of y ≡ own_letter b) → pattern_of y ≡ own_letter b
     go true q f rest =
         let c : r.1 ≡ y = cc in
         let d = eqb-true b (code r.0) q in
@@ -69,6 +69,6 @@ in_table (r ∷ rows) o b y e h = go (eqb b (code r.0)) refl e (λ f. in_table r
         ap pattern_of (sym c) ∙ pattern ∙ ap own_letter (sym d)
     go false q f rest = rest f
 
-pub own_pattern : (b : ℕ) (y : TimeFormat) → time_of b ≡ Component y → has composed b ≡ false → pattern_of y ≡ own_letter b
+pub own_pattern : (b : ℕ) (y : TimeFormat) → time_of b ≡ Some y → has composed b ≡ false → pattern_of y ≡ own_letter b
 unfolding time_of
 own_pattern b y = in_table time_letters own-rows b y

@@ -1,176 +1,159 @@
 // The components of a date and their parts: as `format_time_component` prints them.
 // Ported from format_string.rs of datafusion-spark 55.2.0 (Apache-2.0; see NOTICE): what format_time_component prints for each component.
-ghost use Rattle.std.specs.Prelude.{◌≡◌, ◌+◌, ◌≤◌, length};
+ghost use Rattle.std.specs.Prelude.{◌≡◌, ◌≤◌, length};
 ghost use Rattle.numerals.specs.Integers.{int_of};
 ghost use Rattle.dates.specs.Names.{month_names, weekday_names, name_of};
-ghost use Rattle.dates.specs.Components.{clock12, short, sign_text, name_text, symbol_text, pattern_of, is_early_fraction};
-ghost use Rattle.dates.specs.Steps.{patterns, words, within, Inside, half_from, part_text, Fitting, room_of, room};
+ghost use Rattle.dates.specs.Components.{clock12, half, short, sign_text, name_text, symbol_text, pattern_of, is_early_fraction};
+ghost use Rattle.dates.specs.Steps.{part_text, Fitting, room_of, room};
 
 use calendar::Moment;
 use kinds::letters::TimeFormat;
-
-// A part of a list of texts that stand one behind the other.
-#[derive(Clone, Copy)]
-pub struct Span {
-    pub start: usize,
-    pub len: usize,
-}
 
 // A part of a component's text: a number at so many places at least, a word, a byte.
 #[derive(Clone, Copy)]
 pub enum TimePart {
     Number(usize, u64),
-    Word(Span),
+    Word(&'static [u8]),
     Byte(u8),
 }
 
-// Where a component's letters stand in the list of all patterns, which `dates` has.
-pub(crate) fn pattern_of(component: TimeFormat) -> Span
-    ensures { (within patterns result ≡ pattern_of component) × (result.start + result.len ≤ length patterns) }
+// A component's letters.
+pub(crate) fn pattern_of(component: TimeFormat) -> &'static [u8]
+    ensures { result.now ≡ pattern_of component }
 {
     match component {
-        TimeFormat::HUpper => Span { start: 0, len: 1 },
-        TimeFormat::IUpper => Span { start: 1, len: 1 },
-        TimeFormat::KLower => Span { start: 2, len: 1 },
-        TimeFormat::LLower => Span { start: 3, len: 1 },
-        TimeFormat::MUpper => Span { start: 4, len: 1 },
-        TimeFormat::SUpper => Span { start: 5, len: 1 },
-        TimeFormat::LUpper => Span { start: 6, len: 1 },
-        TimeFormat::NUpper => Span { start: 7, len: 1 },
-        TimeFormat::PLower => Span { start: 8, len: 1 },
-        TimeFormat::ZLower => Span { start: 9, len: 1 },
-        TimeFormat::ZUpper => Span { start: 10, len: 1 },
-        TimeFormat::SLower => Span { start: 11, len: 2 },
-        TimeFormat::QUpper => Span { start: 13, len: 2 },
-        TimeFormat::BUpper => Span { start: 15, len: 1 },
-        TimeFormat::BLower => Span { start: 16, len: 1 },
-        TimeFormat::AUpper => Span { start: 17, len: 1 },
-        TimeFormat::ALower => Span { start: 18, len: 1 },
-        TimeFormat::CUpper => Span { start: 19, len: 1 },
-        TimeFormat::YUpper => Span { start: 20, len: 1 },
-        TimeFormat::YLower => Span { start: 21, len: 1 },
-        TimeFormat::JLower => Span { start: 22, len: 1 },
-        TimeFormat::MLower => Span { start: 23, len: 1 },
-        TimeFormat::DLower => Span { start: 24, len: 1 },
-        TimeFormat::ELower => Span { start: 25, len: 1 },
-        TimeFormat::RUpper => Span { start: 49, len: 3 },
-        TimeFormat::TUpper => Span { start: 49, len: 5 },
-        TimeFormat::RLower => Span { start: 26, len: 7 },
-        TimeFormat::DUpper => Span { start: 33, len: 5 },
-        TimeFormat::FUpper => Span { start: 38, len: 5 },
-        TimeFormat::CLower => Span { start: 43, len: 15 },
+        TimeFormat::HUpper => b"H",
+        TimeFormat::IUpper => b"I",
+        TimeFormat::KLower => b"k",
+        TimeFormat::LLower => b"l",
+        TimeFormat::MUpper => b"M",
+        TimeFormat::SUpper => b"S",
+        TimeFormat::LUpper => b"L",
+        TimeFormat::NUpper => b"N",
+        TimeFormat::PLower => b"p",
+        TimeFormat::ZLower => b"z",
+        TimeFormat::ZUpper => b"Z",
+        TimeFormat::SLower => b"~s",
+        TimeFormat::QUpper => b"~Q",
+        TimeFormat::BUpper => b"B",
+        TimeFormat::BLower => b"b",
+        TimeFormat::AUpper => b"A",
+        TimeFormat::ALower => b"a",
+        TimeFormat::CUpper => b"C",
+        TimeFormat::YUpper => b"Y",
+        TimeFormat::YLower => b"y",
+        TimeFormat::JLower => b"j",
+        TimeFormat::MLower => b"m",
+        TimeFormat::DLower => b"d",
+        TimeFormat::ELower => b"e",
+        TimeFormat::RUpper => b"H:M",
+        TimeFormat::TUpper => b"H:M:S",
+        TimeFormat::RLower => b"I:M:S P",
+        TimeFormat::DUpper => b"m/d/y",
+        TimeFormat::FUpper => b"Y-m-d",
+        TimeFormat::CLower => b"a b d H:M:S Z Y",
     }
 }
 
-// Where a month's name stands in the list of all words, which `dates` has.
-fn month_name(month: u64) -> Span
-    ensures { (within words result ≡ name_of month_names month) × Inside words result }
+// A month's name.
+#[tactic(auto, unfolding(crate::specs::Names::name_of))]
+fn month_name(month: u64) -> &'static [u8]
+    ensures { (result.now ≡ name_of month_names month) × (length result.now ≤ 20) }
 {
     match month {
-        1 => Span { start: 0, len: 7 },
-        2 => Span { start: 7, len: 8 },
-        3 => Span { start: 15, len: 5 },
-        4 => Span { start: 20, len: 5 },
-        5 => Span { start: 25, len: 3 },
-        6 => Span { start: 28, len: 4 },
-        7 => Span { start: 32, len: 4 },
-        8 => Span { start: 36, len: 6 },
-        9 => Span { start: 42, len: 9 },
-        10 => Span { start: 51, len: 7 },
-        11 => Span { start: 58, len: 8 },
-        12 => Span { start: 66, len: 8 },
-        _ => Span { start: 0, len: 0 },
+        1 => b"January",
+        2 => b"February",
+        3 => b"March",
+        4 => b"April",
+        5 => b"May",
+        6 => b"June",
+        7 => b"July",
+        8 => b"August",
+        9 => b"September",
+        10 => b"October",
+        11 => b"November",
+        12 => b"December",
+        _ => b"",
     }
 }
 
-// Where a weekday's name stands in that list.
-fn weekday_name(weekday: u64) -> Span
-    ensures { (within words result ≡ name_of weekday_names weekday) × Inside words result }
+// A weekday's name.
+#[tactic(auto, unfolding(crate::specs::Names::name_of))]
+fn weekday_name(weekday: u64) -> &'static [u8]
+    ensures { (result.now ≡ name_of weekday_names weekday) × (length result.now ≤ 20) }
 {
     match weekday {
-        0 => Span { start: 74, len: 6 },
-        1 => Span { start: 80, len: 7 },
-        2 => Span { start: 87, len: 9 },
-        3 => Span { start: 96, len: 8 },
-        4 => Span { start: 104, len: 6 },
-        5 => Span { start: 110, len: 8 },
-        6 => Span { start: 118, len: 6 },
-        _ => Span { start: 0, len: 0 },
+        0 => b"Monday",
+        1 => b"Tuesday",
+        2 => b"Wednesday",
+        3 => b"Thursday",
+        4 => b"Friday",
+        5 => b"Saturday",
+        6 => b"Sunday",
+        _ => b"",
     }
 }
 
 // The hour of the 12-hour clock.
+#[tactic(auto, unfolding(crate::specs::Components::clock12))]
 fn clock12(hour: u64) -> u64
     ensures { result ≡ clock12 hour }
 {
-    if hour % 12 == 0 {
-        return 12;
+    match hour % 12 {
+        0 => 12,
+        h => h,
     }
-    hour % 12
 }
 
-// The word for an hour: the morning's, which begins at a place in that list, or the afternoon's behind it.
-fn half(hour: u64, start: usize) -> Span
-    requires { start ≤ 128 }
-    ensures { (within words result ≡ half_from start hour) × Inside words result }
+// The word for an hour, of the morning or of the afternoon.
+#[tactic(auto, unfolding(crate::specs::Components::half))]
+fn half(hour: u64, morning: &'static [u8], afternoon: &'static [u8]) -> &'static [u8]
+    requires { (length morning.now ≤ 20) × (length afternoon.now ≤ 20) }
+    ensures { (result.now ≡ half morning.now afternoon.now hour) × (length result.now ≤ 20) }
 {
-    if hour < 12 {
-        return Span {
-            start: start,
-            len: 2,
-        };
-    }
-    Span {
-        start: start + 2,
-        len: 2,
-    }
+    if hour < 12 { morning } else { afternoon }
 }
 
 // The first three letters of a name.
-fn short(name: Span) -> Span
-    requires { Inside words name }
-    ensures { (within words result ≡ short (within words name)) × Inside words result }
+fn short(name: &'static [u8]) -> &'static [u8]
+    ensures { (result.now ≡ short name.now) × (length result.now ≤ 20) }
 {
-    if name.len < 3 {
-        return name;
-    }
-    Span {
-        start: name.start,
-        len: 3,
-    }
+    &name[..name.len().min(3)]
 }
 
 // The sign of a timestamp.
-fn sign(timestamp: u64) -> Span
-    ensures { (within words result ≡ sign_text (int_of 64 timestamp)) × Inside words result }
+#[tactic(auto, unfolding(crate::specs::Components::sign_text))]
+fn sign(timestamp: u64) -> &'static [u8]
+    ensures { (result.now ≡ sign_text (int_of 64 timestamp)) × (length result.now ≤ 20) }
 {
     if numerals::integers::is_negative(timestamp) {
-        return Span { start: 140, len: 1 };
+        b"-"
+    } else {
+        b""
     }
-    Span { start: 140, len: 0 }
 }
 
 // What a letter that is no number's prints of a timestamp, whose moment is m: a name, a word, or the byte itself.
+#[tactic(auto, unfolding(crate::specs::Components::name_text, writing::specs::Text::has))]
 fn name_part(letter: u8, m: Moment, timestamp: u64) -> TimePart
     ensures { (part_text result ≡ name_text (int_of 64 timestamp) m letter) × (Fitting result × (room_of result ≤ room letter)) }
 {
-    let month = month_name(m.month);
-    let weekday = weekday_name(m.weekday);
     match letter {
-        b'p' => TimePart::Word(half(m.hour, 124)),
-        b'P' => TimePart::Word(half(m.hour, 128)),
-        b'z' => TimePart::Word(Span { start: 132, len: 5 }),
-        b'Z' => TimePart::Word(Span { start: 137, len: 3 }),
+        b'p' => TimePart::Word(half(m.hour, b"am", b"pm")),
+        b'P' => TimePart::Word(half(m.hour, b"AM", b"PM")),
+        b'z' => TimePart::Word(b"+0000"),
+        b'Z' => TimePart::Word(b"UTC"),
         b'~' => TimePart::Word(sign(timestamp)),
-        b'B' => TimePart::Word(month),
-        b'b' => TimePart::Word(short(month)),
-        b'A' => TimePart::Word(weekday),
-        b'a' => TimePart::Word(short(weekday)),
+        b'B' => TimePart::Word(month_name(m.month)),
+        b'b' => TimePart::Word(short(month_name(m.month))),
+        b'A' => TimePart::Word(weekday_name(m.weekday)),
+        b'a' => TimePart::Word(short(weekday_name(m.weekday))),
         _ => TimePart::Byte(letter),
     }
 }
 
 // What a letter prints of a timestamp, whose moment is m.
+#[tactic(auto, unfolding(crate::specs::Components::symbol_text, writing::specs::Text::has))]
 pub(crate) fn part_of(letter: u8, m: Moment, timestamp: u64) -> TimePart
     ensures { (part_text result ≡ symbol_text (int_of 64 timestamp) m letter) × (Fitting result × (room_of result ≤ room letter)) }
 {
@@ -199,11 +182,10 @@ pub(crate) fn part_of(letter: u8, m: Moment, timestamp: u64) -> TimePart
 }
 
 // Whether a timestamp lies before 1970 and is not a whole second.
+#[tactic(auto, unfolding(crate::specs::Components::is_early_fraction))]
 pub fn is_early_fraction(timestamp: u64) -> bool
     ensures { result ≡ is_early_fraction (int_of 64 timestamp) }
 {
-    if numerals::integers::is_negative(timestamp) {
-        return 0 < numerals::integers::magnitude(timestamp) % 1000000000;
-    }
-    false
+    numerals::integers::is_negative(timestamp)
+        && numerals::integers::magnitude(timestamp) % 1000000000 != 0
 }

@@ -1,19 +1,18 @@
 -- What a piece's text and size are, by the piece. Assumes nothing.
+use Rattle.std.specs.Prelude.{Option, None, Some, Err, Ok, Result}
 use Prim.Native.Nat.{ℕ, ◌^◌, ◌≤◌, ◌<◌}
 use mathlib.Core.Path.{◌≡◌, refl, sym, ap, subst, ◌∙◌}
 use mathlib.Core.Bool.{Bool, true, false, true≢false}
 use mathlib.Core.List.{List}
-use mathlib.Core.Option.{Option, none, some}
 use native.Mathlib.Omega.{arith}
 use lib.ListN.{length}
 use Rattle.writing.specs.Writers.{Put}
-use Rattle.kinds.specs.Kinds.{kind_in, fit_of}
+use Rattle.kinds.specs.Kinds.{kind_in, fit_in}
 use Rattle.kinds.specs.declared.letters.ConversionType.{ConversionType}
 use Rattle.kinds.specs.declared.Kind.{Kind}
 use Rattle.kinds.specs.declared.Kind.TheVariants as K
 use Rattle.kinds.specs.declared.Form.{Form}
 use Rattle.kinds.specs.declared.Form.TheVariants as F
-use Rattle.kinds.specs.declared.Fit.TheVariants.{Fits}
 use Rattle.kinds.proofs.Tables.{OfForm, form_of}
 use Rattle.specifiers.specs.declared.Element.{Element}
 use Rattle.parsing.specs.declared.Piece.TheVariants.{Element as AnElement}
@@ -22,29 +21,28 @@ use Rattle.parsing.specs.Covers.{PieceIn}
 use Rattle.rows.proofs.Rows.{kinds-length, kind_byte}
 use Rattle.elements.specs.Texts.{Shown, Text, Stops, text_of, stop_of}
 use Rattle.elements.specs.Sizes.{Sized, size_of}
-use Rattle.elements.specs.declared.Size.{Size}
-use Rattle.elements.specs.declared.Size.TheVariants as S
 use Rattle.elements.specs.Ready.{Suited}
+use Rattle.refusals.specs.declared.Refusal.{Refusal}
 
 -- the size by what stops a text and by its length
-abbrev pub sized : Option ℕ → ℕ → Size
-sized none n = S.Bytes n
-sized (some number) n = S.Stops number
+abbrev pub sized : Option Refusal → ℕ → Result ℕ Refusal
+sized None n = Ok n
+sized (Some refusal) n = Err refusal
 
 pub size_by : (t : Shown) → size_of t ≡ sized (stop_of t) (length (text_of t))
 size_by (Text t) = refl
-size_by (Stops number) = refl
+size_by (Stops refusal) = refl
 
 -- what nothing stops is its text
-pub shown-text : (t : Shown) → stop_of t ≡ none → t ≡ Text (text_of t)
+pub shown-text : (t : Shown) → stop_of t ≡ None → t ≡ Text (text_of t)
 shown-text (Text t) e = refl
-shown-text (Stops number) e =
+shown-text (Stops refusal) e =
     let z : ◌≡◌ {A = ℕ} 0 1 = cc in
     absurd (omega arith)
 
 -- a text put where there is room
-pub put_sized : (d t out : List ℕ) (n : ℕ) → Put d t n out → n < 2 ^ 42 → Sized d (Text t) (S.Bytes n) out
-put_sized d t out n w h = record { size = ap S.Bytes w.0; below = h; bytes = w.1 }
+pub put_sized : (d t out : List ℕ) (n : ℕ) → Put d t n out → n < 2 ^ 42 → Sized d (Text t) (Ok n) out
+put_sized d t out n w h = record { size = ap Ok w.0; below = h; bytes = w.1 }
 
 -- An element that is found takes an argument of the row, and has the form of its kind.
 pub found_suited : (s row : List ℕ) (e : Element) → is_row row ≡ true → PieceIn s (kinds_of row) (AnElement e) → Suited row e
@@ -54,7 +52,7 @@ found_suited s row e kept i =
     let byte = kind_byte row e.argument i.0 last in
     record {
       argument = record { kept = kept; first = i.0; last = last };
-      form = ap (λ (b : ℕ). fit_of e.conversion (kind_in b)) (sym byte) ∙ i.2;
+      form = ap (λ (b : ℕ). fit_in e.conversion (kind_in b)) (sym byte) ∙ i.2;
     }
 
 -- Text is the form of texts alone.
@@ -69,9 +67,9 @@ is_text F.NotPrinted = false
 never : {f : Form} → f ≡ F.Text → is_text f ≡ false → ⊥
 never q n = true≢false (sym (ap is_text q) ∙ n)
 
-pub text-kind : (c : ConversionType) (k : Kind) → fit_of c k ≡ Fits F.Text → k ≡ K.Text
+pub text-kind : (c : ConversionType) (k : Option Kind) → fit_in c k ≡ Some F.Text → k ≡ Some K.Text
 text-kind c k q =
-    subst (OfForm (λ f. f ≡ F.Text → k ≡ K.Text)) q
-    (form_of (λ k f. f ≡ F.Text → k ≡ K.Text)
+    subst (OfForm (λ f. f ≡ F.Text → k ≡ Some K.Text)) q
+    (form_of (λ k f. f ≡ F.Text → k ≡ Some K.Text)
     (λ k h. absurd (never h refl)) (λ f k h. absurd (never h refl)) (λ h. absurd (never h refl)) (λ h. absurd (never h refl))
     (λ h. refl) (λ x h. absurd (never h refl)) c k) refl

@@ -22,30 +22,23 @@ use frames::Mark;
 use kinds::letters::TimeFormat;
 use kinds::{Form, IntegerForm, IntegerKind};
 use pieces::Source;
+use refusals::Refusal;
 use specifiers::Element;
 
-// The length of a text, or the number that stops it.
-#[derive(Clone, Copy)]
-pub enum Size {
-    Bytes(u64),
-    Stops(u8),
-}
+// The length of a text, or what stops it.
+pub type Size = Result<u64, Refusal>;
 
 // %c
 fn format_char(out: &mut [u8], e: Element, signed: bool, value: u64) -> Size
     ensures { Sized out.old (char_text e (integer_of signed value)) result out.new }
 {
     let n = numerals::integers::integer_of(signed, value);
-    if n.negative {
-        return Size::Stops(refusals::NO_SCALAR);
+    if n.negative || !utf8::scalars::is_scalar(n.magnitude) {
+        return Err(Refusal::NoScalar);
     }
-    let magnitude = n.magnitude;
-    if utf8::scalars::is_scalar(magnitude) {
-        let mut buffer = [0u8; 4];
-        let len = utf8::scalars::write_scalar(&mut buffer, magnitude as u32);
-        return Size::Bytes(fields::put_padded(out, e, Mark::NoMark, &buffer[..len]));
-    }
-    Size::Stops(refusals::NO_SCALAR)
+    let mut buffer = [0u8; 4];
+    let len = utf8::scalars::write_scalar(&mut buffer, n.magnitude as u32);
+    Ok(fields::put_padded(out, e, Mark::NoMark, &buffer[..len]))
 }
 
 // An integer of this kind that is not null.
@@ -59,13 +52,9 @@ fn format_integer(
     ensures { Sized out.old (integer_text e form kind value) result out.new }
 {
     match form {
-        IntegerForm::Numeral(radix) => {
-            Size::Bytes(numbers::format_numeral(out, e, radix, kind, value))
-        }
+        IntegerForm::Numeral(radix) => { Ok(numbers::format_numeral(out, e, radix, kind, value)) }
         IntegerForm::Scalar => format_char(out, e, kind.signed, value),
-        IntegerForm::Digits => {
-            Size::Bytes(fields::format_signed_text(out, e, kind.signed, value))
-        }
+        IntegerForm::Digits => { Ok(fields::format_signed_text(out, e, kind.signed, value)) }
     }
 }
 
@@ -73,18 +62,11 @@ fn format_integer(
 fn format_hex_float(out: &mut [u8], e: Element, bits: u64) -> u64
     ensures { Put out.old (float_text e (category_of bits) bits) result out.new × (result < 2 ^ 42) }
 {
-    let flags = e.flags;
-    let category = binary64::category(bits);
-    match category {
+    match binary64::category(bits) {
         FpCategory::Nan => fields::put_padded(out, e, Mark::NoMark, b"NaN"),
         FpCategory::Infinite => {
-            let parts = binary64::to_parts(bits);
-            fields::put_padded(
-                out,
-                e,
-                numbers::float_mark(flags, parts.negative),
-                b"Infinity",
-            )
+            let mark = numbers::float_mark(e.flags, binary64::to_parts(bits).negative);
+            fields::put_padded(out, e, mark, b"Infinity")
         }
         FpCategory::Finite => numbers::format_finite(out, e, bits),
     }
@@ -95,9 +77,10 @@ fn format_boolean(out: &mut [u8], e: Element, value: u64) -> u64
     ensures { Put out.old (format_string e (boolean_word value)) result out.new × (result < 2 ^ 42) }
 {
     if value == 0 {
-        return fields::format_string(out, e, b"false");
+        fields::format_string(out, e, b"false")
+    } else {
+        fields::format_string(out, e, b"true")
     }
-    fields::format_string(out, e, b"true")
 }
 
 // t, and T where upper is set.
@@ -105,45 +88,37 @@ fn format_time(out: &mut [u8], component: TimeFormat, value: u64, upper: bool) -
     ensures { Sized out.old (time_text upper component (int_of 64 value)) result out.new }
 {
     if dates::components::is_early_fraction(value) {
-        return Size::Stops(refusals::NO_WHOLE_SECOND);
+        return Err(Refusal::NoWholeSecond);
     }
     // Called from two places, so that it is compiled apart from the loop over pieces, which has to be quick for numbers.
-    if upper {
-        return Size::Bytes(dates::put_component(out, component, value, true) as u64);
-    }
-    Size::Bytes(dates::put_component(out, component, value, false) as u64)
+    let n = if upper {
+        dates::put_component(out, component, value, true)
+    } else {
+        dates::put_component(out, component, value, false)
+    };
+    Ok(n as u64)
 }
 
 // Writes an element where there is room for it.
-fn put_element<'a>(out: &mut [u8], fmt: &'a [u8], row: &'a [u8], e: Element) -> Size
+fn put_element(out: &mut [u8], fmt: &[u8], row: &[u8], e: Element) -> Size
     requires { Suited row.now e }
     ensures { Sized out.old (shown_entry row.now e (entry_at row.now e.argument)) result out.new }
 {
     let entry = rows::entry(row, e.argument);
-    let value = entry.value;
-    let form = e.form;
-    match form {
-        Form::Integer {
-            form: written,
-            kind,
-        } => {
-            if entry.null {
-                return Size::Bytes(fields::format_string(out, e, b"null"));
-            }
-            format_integer(out, e, written, kind, value)
-        }
-        Form::HexFloat => Size::Bytes(format_hex_float(out, e, value)),
-        Form::Boolean => Size::Bytes(format_boolean(out, e, value)),
+    match e.form {
+        Form::Integer { .. } if entry.null => Ok(fields::format_string(out, e, b"null")),
+        Form::Integer { form, kind } => format_integer(out, e, form, kind, entry.value),
+        Form::HexFloat => Ok(format_hex_float(out, e, entry.value)),
+        Form::Boolean => Ok(format_boolean(out, e, entry.value)),
         Form::Text => {
-            let precision = e.precision;
             let source = Source::Row {
-                entry: entry,
-                precision: precision,
+                entry,
+                precision: e.precision,
             };
             let text = pieces::unpadded_text(fmt, row, source);
-            Size::Bytes(fields::put_padded(out, e, Mark::NoMark, text))
+            Ok(fields::put_padded(out, e, Mark::NoMark, text))
         }
-        Form::Time(component) => format_time(out, component, value, e.upper),
-        Form::NotPrinted => Size::Stops(refusals::NOT_PRINTED),
+        Form::Time(component) => format_time(out, component, entry.value, e.upper),
+        Form::NotPrinted => Err(Refusal::NotPrinted),
     }
 }

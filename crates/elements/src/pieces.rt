@@ -6,7 +6,6 @@ ghost use Rattle.elements.specs.PieceTexts.{shown_piece};
 ghost use Rattle.elements.specs.Ready.{Ready, SourceIn, unpadded};
 
 use crate::Size;
-use numerals::NumericParam;
 use parsing::Piece;
 use rows::entries::Entry;
 
@@ -19,7 +18,7 @@ pub enum Source {
     },
     Row {
         entry: Entry,
-        precision: NumericParam,
+        precision: Option<u32>,
     },
 }
 
@@ -36,20 +35,17 @@ pub(crate) fn unpadded_text<'a>(fmt: &'a [u8], row: &'a [u8], source: Source) ->
     }
 }
 
-// Writes a piece's text where there is room for it; else writes nothing. Returns its length either way, or the number that stops it.
-pub fn put_piece<'a>(out: &mut [u8], fmt: &'a [u8], row: &'a [u8], piece: Piece) -> Size
+// Writes a piece's text where there is room for it; else writes nothing. Returns its length either way, or what stops it.
+pub fn put_piece(out: &mut [u8], fmt: &[u8], row: &[u8], piece: Piece) -> Size
     requires { Ready fmt.now row.now piece }
     ensures { Sized out.old (shown_piece fmt.now row.now piece) result out.new }
 {
     match piece {
         Piece::Fixed { start, len } => {
-            let source = Source::Format {
-                start: start,
-                len: len,
-            };
-            Size::Bytes(writing::put_text(out, unpadded_text(fmt, row, source)) as u64)
+            let source = Source::Format { start, len };
+            Ok(writing::put_text(out, unpadded_text(fmt, row, source)) as u64)
         }
-        Piece::Byte(b) => Size::Bytes(writing::put_byte(out, b) as u64),
+        Piece::Byte(b) => Ok(writing::put_byte(out, b) as u64),
         Piece::Element(e) => crate::put_element(out, fmt, row, e),
     }
 }

@@ -1,4 +1,5 @@
 -- How a cut falls back, and what it leaves. Assumes nothing.
+use Rattle.std.specs.Prelude.{None, Option, Some}
 use mathlib.Core.Path.{◌≡◌, refl}
 use mathlib.Core.Bool.{true, false}
 use mathlib.Core.List.{List}
@@ -6,10 +7,8 @@ use Prim.Native.Nat.{ℕ, zero, suc, ◌-◌, ◌≤◌, ◌<◌}
 use native.Mathlib.Omega.{arith}
 use lib.Dec.{ltb}
 use lib.ListN.{length, get_or, length-take}
-use borrow.Author.Tests.{le-leb, lt-leb, le-ltb, ltb-true, ltb-false}
+use borrow.Author.Tests.{ltb-true, ltb-false}
 use Rattle.writing.proofs.Choose.{by_test}
-use Rattle.numerals.specs.declared.NumericParam.{NumericParam}
-use Rattle.numerals.specs.declared.NumericParam.TheVariants.{Literal, FromArgument}
 use Rattle.fields.specs.Cut.{continues, back_to, cut_length, cut_to}
 
 module _ (s : List ℕ) where
@@ -44,22 +43,8 @@ module _ (s : List ℕ) where
       longer : length s ≤ n → (length s ≤ length s) × (length s ≤ n)
       longer h = (omega arith, h)
 
-  -- a text of no more than was asked is left whole
-  cut_whole : (n : ℕ) → length s ≤ n → cut_length n s ≡ length s
-  unfolding cut_length
-  cut_whole n h = simp (le-ltb n (length s) h)
-
 -- what a cut leaves is no longer, and a second cut leaves it as it is
-pub cut_shorter : (p : NumericParam) (s : List ℕ) → length (cut_to p s) ≤ length s
+pub cut_shorter : (p : Option ℕ) (s : List ℕ) → length (cut_to p s) ≤ length s
 unfolding cut_to
-cut_shorter FromArgument s = omega arith
-cut_shorter (Literal n) s = simp length-take (omega arith)
-
-pub starts_below : (b : ℕ) → b < 128 → continues b ≡ false
-starts_below b h = simp (lt-leb 128 b h)
-
-pub starts_above : (b : ℕ) → 128 ≤ b → 191 < b → continues b ≡ false
-starts_above b h k = simp (le-leb 128 b h, lt-leb b 191 k)
-
-pub goes_on : (b : ℕ) → 128 ≤ b → b ≤ 191 → continues b ≡ true
-goes_on b h k = simp (le-leb 128 b h, le-leb b 191 k)
+cut_shorter None s = omega arith
+cut_shorter (Some n) s = simp length-take (omega arith)

@@ -1,9 +1,7 @@
 -- Text cut to a precision, and in capitals. 01, "Characters, Booleans, text".
-use Rattle.std.specs.Prelude.{ℕ, zero, suc, ◌+◌, ◌-◌, Bool, ◌&&◌, List, map, leb, ltb, length, get_or, take}
+use Rattle.std.specs.Prelude.{ℕ, zero, suc, ◌+◌, ◌-◌, Bool, ◌&&◌, List, map, leb, ltb, length, get_or, take, None, Option, Some}
 use Prim.Native.Char.{code}
 use Rattle.writing.specs.Choose.{choose}
-use Rattle.numerals.specs.declared.NumericParam.{NumericParam}
-use Rattle.numerals.specs.declared.NumericParam.TheVariants.{Literal, FromArgument}
 
 -- A byte that continues a character: Unicode's table 3-7 gives 80 to BF to all bytes but the first.
 abbrev pub continues : ℕ → Bool
@@ -19,9 +17,9 @@ unfoldable pub cut_length : ℕ → List ℕ → ℕ
 cut_length n s = choose (ltb n (length s)) (λ _. back_to n s) (λ _. length s)
 
 -- The part of s that a precision leaves; without one all of it.
-unfoldable pub cut_to : NumericParam → List ℕ → List ℕ
-cut_to FromArgument s = s
-cut_to (Literal n) s = take (cut_length n s) s
+unfoldable pub cut_to : Option ℕ → List ℕ → List ℕ
+cut_to None s = s
+cut_to (Some n) s = take (cut_length n s) s
 
 -- "capitals change a to z only"
 unfoldable pub capital : ℕ → ℕ

@@ -20,33 +20,31 @@ fn side_of(flags: Flags) -> Adjust
     ensures { result ≡ side flags }
 {
     if flags.left {
-        return Adjust::Left;
+        Adjust::Left
+    } else {
+        Adjust::Right
     }
-    Adjust::Right
 }
 
 // A text in capitals or not, padded to the element's width.
+#[tactic(auto, using(frames::proofs::Around::framing))]
 pub fn put_padded(out: &mut [u8], e: Element, mark: Mark, text: &[u8]) -> u64
     requires { length text.now < 2 ^ 32 }
     ensures { Put out.old (padded_text e mark text.now) result out.new × (result < 2 ^ 42) }
 {
-    let width = e.width;
-    let flags = e.flags;
     let n = text.len() as u64;
     let framed = frames::layout::put_frame(
         out,
-        specifiers::params::width_of(width),
-        side_of(flags),
+        specifiers::params::width_of(e.width),
+        side_of(e.flags),
         mark,
         Prefix::NoPrefix,
         n,
     );
-    let total = framed.added + n;
-    if framed.fits {
-        let at = framed.at;
+    if let Some(at) = framed.at {
         strings::write_cased(&mut out[at..], text, e.upper);
     }
-    total
+    framed.added + n
 }
 
 // A text, cut to the precision, in capitals or not, padded to the width.
@@ -54,8 +52,15 @@ pub fn format_string(out: &mut [u8], e: Element, text: &[u8]) -> u64
     requires { length text.now < 2 ^ 32 }
     ensures { Put out.old (format_string e text.now) result out.new × (result < 2 ^ 42) }
 {
-    let precision = e.precision;
-    put_padded(out, e, Mark::NoMark, strings::cut(precision, text))
+    put_padded(out, e, Mark::NoMark, strings::cut(e.precision, text))
+}
+
+// Writes a number's decimal digits. Answers how many.
+fn write_decimal(out: &mut [u8], n: u64) -> usize
+    requires { 20 ≤ length out.old }
+    ensures { Wrote out.old (decimal n) result out.new × (result ≤ 20) }
+{
+    numerals::write_digits(out, n, Radix::Decimal, numerals::decimal_len(n), false)
 }
 
 // Writes an integer's digits as text. Answers the length.
@@ -63,12 +68,12 @@ fn write_signed_text(out: &mut [u8], negative: bool, magnitude: u64) -> usize
     requires { 21 ≤ length out.old }
     ensures { Wrote out.old (with_minus negative (decimal magnitude)) result out.new × (result ≤ 21) }
 {
-    let n = numerals::decimal_len(magnitude);
     if negative {
         out[0] = b'-';
-        return 1 + numerals::write_digits(&mut out[1..], magnitude, Radix::Decimal, n, false);
+        1 + write_decimal(&mut out[1..], magnitude)
+    } else {
+        write_decimal(out, magnitude)
     }
-    numerals::write_digits(out, magnitude, Radix::Decimal, n, false)
 }
 
 // %s of an integer

@@ -1,6 +1,5 @@
 -- A text brought to a width by the three writes that make it. Assumes nothing.
 use mathlib.Core.Path.{◌≡◌, refl, sym, ap, subst, ◌∙◌}
-use mathlib.Core.Bool.{Bool, true, false}
 use mathlib.Core.List.{List, ◌++◌, append_assoc}
 use Prim.Native.Nat.{ℕ, ◌+◌, ◌-◌, ◌≤◌}
 use native.Mathlib.Nat.{add_assoc}
@@ -18,7 +17,9 @@ use Rattle.frames.specs.declared.Prefix.{Prefix}
 use Rattle.frames.specs.declared.Adjust.{Adjust}
 use Rattle.frames.specs.declared.Frame.{Frame}
 use Rattle.frames.proofs.Padded.{padded-is, padded-size}
-use Rattle.frames.specs.Around.{laid_from, Holds, FramePut}
+use Rattle.std.specs.Prelude.{Option, Some, None}
+use Rattle.std.specs.Option.{is_some}
+use Rattle.frames.specs.Around.{laid_from, around, Holds, FramePut}
 use Rattle.frames.specs.declared.layout.Framed.{Framed}
 
 -- The text in its frame: written to its place, which is n bytes long, where frame and text fit.
@@ -38,12 +39,16 @@ around_filled d h b t room =
       drop_at gap rest (length b) long,
     ) (simp (drop-drop, length-append, add_assoc))
 
--- Where frame and text fit, there is room for the text from its place on.
-pub framed-room : (d : List ℕ) (f : Frame) (n : ℕ) (r : Framed) (D : List ℕ) → FramePut d f n r D → r.fits ≡ true → r.at + n ≤ length d
-framed-room d f n r D h e =
-    let room = leb-true (r.added + n) (length d) (sym h.fits ∙ e) in
-    let held : Holds true d f n r.at D = subst (λ (t : Bool). Holds t d f n r.at D) e h.holds in
-    omega (arith, h.added, held.0)
+-- Where the text has a place, frame and text have room, and so has the text from there on.
+room_around : (d : List ℕ) (f : Frame) (n : ℕ) (r : Framed) (D : List ℕ) (at : ℕ) → FramePut d f n r D → r.at ≡ Some at → r.added + n ≤ length d
+room_around d f n r D at h e = leb-true (r.added + n) (length d) (sym h.fits ∙ ap is_some e)
+
+put_at : (d : List ℕ) (f : Frame) (n : ℕ) (r : Framed) (D : List ℕ) (at : ℕ) → FramePut d f n r D → r.at ≡ Some at
+    → (at ≡ length (head_text f)) × (D ≡ around d f n)
+put_at d f n r D at h e = subst (λ (o : Option ℕ). Holds d f n o D) e h.holds
+
+pub framed-room : (d : List ℕ) (f : Frame) (n : ℕ) (r : Framed) (D : List ℕ) (at : ℕ) → FramePut d f n r D → r.at ≡ Some at → at + n ≤ length d
+framed-room d f n r D at h e = omega (arith, room_around d f n r D at h e, put_at d f n r D at h e, h.added)
 
 module _ (w : ℕ) (a : Adjust) (m : Mark) (p : Prefix) (body : List ℕ) (n : ℕ) (q : n ≡ length body) (d : List ℕ) (r : Framed) (D : List ℕ)
     (h : FramePut d (frame_of w a m p n) n r D) where
@@ -59,23 +64,26 @@ module _ (w : ℕ) (a : Adjust) (m : Mark) (p : Prefix) (body : List ℕ) (n : �
   size = ap (λ (k : ℕ). r.added + k) q ∙ ap (λ (k : ℕ). k + length body) put.added ∙ sym (padded-size w a m p body frame refl)
 
   -- Y is what the writer of the text left of the part from its place on.
-  pub framed_put : r.fits ≡ true → (Y : List ℕ) → Y ≡ laid (mid_of r.at (length D - r.at) D) body
-      → Put d (padded w a m p body) (r.added + n) (put_mid r.at (length D - r.at) D Y)
+  pub framed_put : (at : ℕ) → r.at ≡ Some at → (Y : List ℕ) → Y ≡ laid (mid_of at (length D - at) D) body
+      → Put d (padded w a m p body) (r.added + n) (put_mid at (length D - at) D Y)
   unfolding frame
-  framed_put e Y y =
+  framed_put at e Y y =
       let f = frame_of w a m p (length body) in
-      let room = leb-true (r.added + length body) (length d) (sym put.fits ∙ e) in
-      let held : Holds true d f (length body) r.at D = subst (λ (t : Bool). Holds t d f (length body) r.at D) e put.holds in (
+      let room = room_around d f (length body) r D at put e in
+      let held = put_at d f (length body) r D at put e in (
         size,
-        ap (put_mid r.at (length D - r.at) D) y
-            ∙ lent_back D body r.at
+        ap (put_mid at (length D - at) D) y
+            ∙ lent_back D body at
             ∙ rw (held.0, held.1) (around_filled d (head_text f) body (tail_text f) (omega (arith, put.added)))
             ∙ ap (laid d) (sym (padded-is w a m p body f refl))
             ∙ sym (laid-room d (padded w a m p body) (omega (arith, size))),
       )
 
-  pub framed_not : r.fits ≡ false → Put d (padded w a m p body) (r.added + n) D
+  pub framed_not : r.at ≡ None → Put d (padded w a m p body) (r.added + n) D
   framed_not e =
-      let small = leb-false (r.added + length body) (length d) (sym put.fits ∙ e) in
-      let held : Holds false d frame (length body) r.at D = subst (λ (t : Bool). Holds t d frame (length body) r.at D) e put.holds in
-      (size, held.1 ∙ sym (laid_no_room d (padded w a m p body) (omega (arith, size))))
+      let small = leb-false (r.added + length body) (length d) (sym put.fits ∙ ap is_some e) in
+      let held : D ≡ d = subst (λ (o : Option ℕ). Holds d frame (length body) o D) e put.holds in
+      (size, held ∙ sym (laid_no_room d (padded w a m p body) (omega (arith, size))))
+
+-- what a caller of put_frame needs
+pub ruleset framing = (framed-room, framed_put, framed_not)

@@ -18,3 +18,5 @@ head_length f = rw (length-append, length-replicate, length-append, length-repli
 pub tail_length : (f : Frame) → length (tail_text f) ≡ f.after + length (closing f.mark)
 unfolding tail_text spaces
 tail_length f = rw (length-append, length-replicate) (omega arith)
+
+pub ruleset lengths = (marks-length, head_length, tail_length)

@@ -7,7 +7,6 @@ pub mod layout;
 
 ghost use Rattle.std.specs.Prelude.{◌≡◌, ◌+◌, ◌^◌, ◌≤◌, ◌<◌, length};
 ghost use Rattle.frames.specs.Frame.{opening, closing, prefix_text, head_text, tail_text, spare, frame_of};
-ghost use Rattle.frames.specs.Short.{StandsFor};
 ghost use Rattle.frames.specs.Bare.{is_bare};
 
 // The mark of a number.
@@ -47,45 +46,38 @@ pub struct Frame {
     pub after: u32,
 }
 
-// A text of at most two bytes: how many, the first and the second, 0 where there is none.
-#[derive(Clone, Copy)]
-pub struct Short(pub u8, pub u8, pub u8);
-
 // What a mark puts in front of the digits.
-fn opening_text(mark: Mark) -> Short
-    ensures { StandsFor result (opening mark) }
+fn opening_text(mark: Mark) -> &'static [u8]
+    ensures { result.now ≡ opening mark }
 {
     match mark {
-        Mark::NoMark => Short(0, 0, 0),
-        Mark::Plus => Short(1, b'+', 0),
-        Mark::Space => Short(1, b' ', 0),
-        Mark::Minus => Short(1, b'-', 0),
-        Mark::Brackets => Short(1, b'(', 0),
+        Mark::NoMark => b"",
+        Mark::Plus => b"+",
+        Mark::Space => b" ",
+        Mark::Minus => b"-",
+        Mark::Brackets => b"(",
     }
 }
 
 // What a mark puts behind the digits.
-fn closing_text(mark: Mark) -> Short
-    ensures { StandsFor result (closing mark) }
+fn closing_text(mark: Mark) -> &'static [u8]
+    ensures { result.now ≡ closing mark }
 {
     match mark {
-        Mark::NoMark => Short(0, 0, 0),
-        Mark::Plus => Short(0, 0, 0),
-        Mark::Space => Short(0, 0, 0),
-        Mark::Minus => Short(0, 0, 0),
-        Mark::Brackets => Short(1, b')', 0),
+        Mark::Brackets => b")",
+        _ => b"",
     }
 }
 
 // What a prefix puts in front of zeros and digits.
-fn prefix_text(prefix: Prefix) -> Short
-    ensures { StandsFor result (prefix_text prefix) }
+fn prefix_text(prefix: Prefix) -> &'static [u8]
+    ensures { result.now ≡ prefix_text prefix }
 {
     match prefix {
-        Prefix::NoPrefix => Short(0, 0, 0),
-        Prefix::Octal => Short(1, b'0', 0),
-        Prefix::HexLower => Short(2, b'0', b'x'),
-        Prefix::HexUpper => Short(2, b'0', b'X'),
+        Prefix::NoPrefix => b"",
+        Prefix::Octal => b"0",
+        Prefix::HexLower => b"0x",
+        Prefix::HexUpper => b"0X",
     }
 }
 
@@ -93,76 +85,59 @@ fn prefix_text(prefix: Prefix) -> Short
 fn all_marks_len(mark: Mark, prefix: Prefix) -> u64
     ensures { (result ≡ length (opening mark) + length (prefix_text prefix) + length (closing mark)) × (result ≤ 6) }
 {
-    let opening = opening_text(mark);
-    let prefixed = prefix_text(prefix);
-    let closing = closing_text(mark);
-    (opening.0 + prefixed.0 + closing.0) as u64
+    (opening_text(mark).len() + prefix_text(prefix).len() + closing_text(mark).len()) as u64
 }
 
 // Whether there is neither a width nor a mark.
 pub fn is_bare(width: u32, mark: Mark) -> bool
     ensures { result ≡ is_bare width mark }
 {
-    match mark {
-        Mark::NoMark => width == 0,
-        Mark::Plus => false,
-        Mark::Space => false,
-        Mark::Minus => false,
-        Mark::Brackets => false,
-    }
+    width == 0 && matches!(mark, Mark::NoMark)
 }
 
 // What is left of the width beside mark, prefix and a text of n.
+#[tactic(auto, unfolding(crate::specs::Frame::spare))]
 fn spare_width(width: u32, mark: Mark, prefix: Prefix, n: u64) -> u32
     ensures { result ≡ spare width mark prefix n }
 {
-    let marks = all_marks_len(mark, prefix);
-    let whole = width as u64;
-    if whole <= marks {
-        return 0;
-    }
-    if whole - marks <= n {
-        return 0;
-    }
-    (whole - marks - n) as u32
+    let left = u64::from(width).saturating_sub(all_marks_len(mark, prefix));
+    left.saturating_sub(n) as u32
 }
 
 // The frame that brings a text of n to the width; a width of 0 pads nothing.
+#[tactic(auto, unfolding(crate::specs::Frame::frame_of))]
 fn frame_for(width: u32, adjust: Adjust, mark: Mark, prefix: Prefix, n: u64) -> Frame
     ensures { result ≡ frame_of width adjust mark prefix n }
 {
     let rest = spare_width(width, mark, prefix, n);
+    let unpadded = Frame {
+        before: 0,
+        mark,
+        prefix,
+        zeros: 0,
+        after: 0,
+    };
     match adjust {
         Adjust::Right => Frame {
             before: rest,
-            mark: mark,
-            prefix: prefix,
-            zeros: 0,
-            after: 0,
+            ..unpadded
         },
         Adjust::Zeros => Frame {
-            before: 0,
-            mark: mark,
-            prefix: prefix,
             zeros: rest,
-            after: 0,
+            ..unpadded
         },
         Adjust::Left => Frame {
-            before: 0,
-            mark: mark,
-            prefix: prefix,
-            zeros: 0,
             after: rest,
+            ..unpadded
         },
     }
 }
 
 // How many bytes a frame adds to the text within it; nothing is written.
+#[tactic(auto, using(crate::proofs::Lengths::lengths))]
 fn frame_len(f: Frame) -> u64
     ensures { (result ≡ length (head_text f) + length (tail_text f)) × (result < 2 ^ 41) }
 {
-    let mark = f.mark;
-    let prefix = f.prefix;
-    let runs = (f.before as u64) + (f.zeros as u64) + (f.after as u64);
-    runs + all_marks_len(mark, prefix)
+    let runs = u64::from(f.before) + u64::from(f.zeros) + u64::from(f.after);
+    runs + all_marks_len(f.mark, f.prefix)
 }

@@ -1,4 +1,5 @@
 -- The gates present after calls: at most 128, none of them twice, and one less after a leave. Assumes nothing.
+use Rattle.std.specs.Prelude.{Ok}
 use mathlib.Core.Path.{◌≡◌, refl, sym, ap, subst, ◌∙◌}
 use mathlib.Core.Bool.{Bool, true, false, true≢false}
 use mathlib.Core.List.{List, [], ◌∷◌}
@@ -12,13 +13,16 @@ use Rattle.refusals.specs.Limits.{most_gates}
 use Rattle.writing.specs.Choose.{choose}
 use Rattle.writing.proofs.Choose.{by_test}
 use Rattle.outcomes.specs.Printed.{measured}
-use Rattle.outcomes.specs.declared.Outcome.TheVariants.{Accepted}
+use Rattle.outcomes.specs.declared.Measured.{Measured}
+use Rattle.refusals.specs.Numbers.{refusal_number}
+use Rattle.refusals.specs.declared.Refusal.TheVariants.{GatePresent, ListFull}
 use Rattle.gates.specs.Gates.{Gate, is_present, without, Change, joins, leaves, done, answer, changed, after, present_after}
 use Rattle.gates.specs.Causes.{ListCause}
 use Rattle.gates.specs.Causes as K
 use Rattle.gates.specs.declared.Changed.{Changed}
 use Rattle.gates.proofs.Causes.{refuses}
 use Rattle.gates.proofs.Places.{neither, all_without}
+use Rattle.refusals.specs.declared.Refusal.{Refusal}
 
 abbrev pub Apart : List Gate → Type 0
 Apart [] = Unit {0}
@@ -68,15 +72,15 @@ module _ (s : List ℕ) where
   had_room : (gates : List Gate) (n : ℕ) (row : List ℕ) → (answer s gates (joins n row)).number ≡ 0 → (is_present n gates ≡ false) × (length gates < most_gates)
   had_room gates n row e = go (is_present n gates) refl
     where
-      not_refused : (m p : ℕ) → ListCause s gates (joins n row) m p → m ≡ 0
+      not_refused : (m : Refusal) (p : ℕ) → ListCause s gates (joins n row) m p → refusal_number m ≡ 0
       not_refused m p x = sym (ap (λ (a : Changed). a.number) (refuses s gates x)) ∙ e
 
       go : (t : Bool) → is_present n gates ≡ t → (is_present n gates ≡ false) × (length gates < most_gates)
-      go true h = absurd (let z = not_refused 19 0 (K.present h) in omega arith)
+      go true h = absurd (let z = not_refused GatePresent 0 (K.present h) in omega arith)
       go false h = (
         h,
         elim (dec_lt (length gates) most_gates)
-            [ yes l ↦ l | no l ↦ absurd (let z = not_refused 21 0 (K.full h (omega arith)) in omega arith) ],
+            [ yes l ↦ l | no l ↦ absurd (let z = not_refused ListFull 0 (K.full h (omega arith)) in omega arith) ],
       )
 
   after_call : (gates : List Gate) (c : Change) → Kept gates → Kept (after s gates c)
@@ -99,10 +103,10 @@ module _ (s : List ℕ) where
   place_freed calls n h = simp h (one_less n (present_after s calls) (kept calls).apart h)
 
   -- So a later join of a gate that is absent is done, where measuring accepts its row.
-  pub place_usable : (calls : List Change) (n j : ℕ) (row : List ℕ) (bytes pieces : ℕ) → is_present n (present_after s calls) ≡ true
-      → is_present j (present_after s (leaves n ∷ calls)) ≡ false → measured s row ≡ Accepted bytes pieces
+  pub place_usable : (calls : List Change) (n j : ℕ) (row : List ℕ) (found : Measured) → is_present n (present_after s calls) ≡ true
+      → is_present j (present_after s (leaves n ∷ calls)) ≡ false → measured s row ≡ Ok found
       → answer s (present_after s (leaves n ∷ calls)) (joins j row) ≡ done
   unfolding answer
-  place_usable calls n j row bytes pieces h absent e =
+  place_usable calls n j row found h absent e =
       let few : length (present_after s (leaves n ∷ calls)) < most_gates = omega (arith, place_freed calls n h, (kept calls).few) in
       simp (absent, lt-leb most_gates (length (present_after s (leaves n ∷ calls))) few, e)

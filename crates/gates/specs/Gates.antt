@@ -1,10 +1,12 @@
 -- A list of gates that join and leave, all under the format s. 02, E4.
-use Rattle.std.specs.Prelude.{ℕ, max, Bool, false, ◌||◌, List, [], ◌∷◌, leb, eqb, length, get_or}
+use Rattle.std.specs.Prelude.{ℕ, max, Bool, false, ◌||◌, List, [], ◌∷◌, leb, eqb, length, get_or, Result, Ok, Err}
 use Rattle.refusals.specs.Limits.{most_gates}
 use Rattle.writing.specs.Choose.{choose}
-use Rattle.outcomes.specs.Printed.{texts, measured}
-use Rattle.outcomes.specs.declared.Outcome.{Outcome}
-use Rattle.outcomes.specs.declared.Outcome.TheVariants.{Accepted, Refused}
+use Rattle.outcomes.specs.Printed.{Outcome, texts, measured}
+use Rattle.refusals.specs.Numbers.{refusal_number}
+use Rattle.refusals.specs.declared.Refusal.{Refusal}
+use Rattle.refusals.specs.declared.Refusal.TheVariants.{GatePresent, GateAbsent, ListFull}
+use Rattle.refusals.specs.declared.Stop.{Stop}
 use Rattle.gates.specs.declared.Changed.{Changed}
 
 -- "Each entry is a gate number, 32 bits unsigned, with its row."
@@ -40,21 +42,25 @@ pub data Change : Type 0 where
 abbrev pub done : Changed
 done = record { number = 0; place = 0 }
 
-abbrev pub refused : ℕ → ℕ → Changed
-refused number place = record { number = number; place = place }
+abbrev pub refused : Refusal → ℕ → Changed
+refused why place = record { number = refusal_number why; place = place }
+
+abbrev pub changed_of : Result (Unit {0}) Stop → Changed
+changed_of (Ok u) = done
+changed_of (Err t) = refused t.refusal t.place
 
 -- "A row that measuring refuses is not taken in, with measuring's own number and place."
 abbrev pub if_measured : Outcome → Changed
-if_measured (Accepted n k) = done
-if_measured (Refused number place) = refused number place
+if_measured (Ok m) = done
+if_measured (Err t) = refused t.refusal t.place
 
 -- "Answers, place 0 ..: 19 for a join of a gate present; 20 for a leave of a gate absent; 21 for a join when 128 are present; 19 comes before 21, both
 -- before measuring's numbers."
 unfoldable pub answer : List ℕ → List Gate → Change → Changed
 answer s gates (joins n row) =
-    choose (is_present n gates) (λ _. refused 19 0)
-    (λ _. choose (leb most_gates (length gates)) (λ _. refused 21 0) (λ _. if_measured (measured s row)))
-answer s gates (leaves n) = choose (is_present n gates) (λ _. done) (λ _. refused 20 0)
+    choose (is_present n gates) (λ _. refused GatePresent 0)
+    (λ _. choose (leb most_gates (length gates)) (λ _. refused ListFull 0) (λ _. if_measured (measured s row)))
+answer s gates (leaves n) = choose (is_present n gates) (λ _. done) (λ _. refused GateAbsent 0)
 
 -- The gates after a call that is done,
 abbrev pub changed : List Gate → Change → List Gate

@@ -1,8 +1,8 @@
 -- Every element of a format takes an argument that there is: from 1 up to the number of kinds. Assumes nothing.
+use Rattle.std.specs.Prelude.{Some}
 use mathlib.Core.Path.{◌≡◌, refl, sym, ap, subst, ◌∙◌}
 use mathlib.Core.Bool.{false}
 use mathlib.Core.List.{List, [], ◌∷◌, append-nil}
-use mathlib.Core.Option.{some}
 use Prim.Native.Nat.{ℕ, suc, ◌≤◌}
 use native.Mathlib.Omega.{arith}
 use lib.ListN.{length}
@@ -37,7 +37,7 @@ index-first ds i =
     subst (λ (n : ℕ). 1 ≤ n) (ap (number_of 10) digits) (number_pos ds (ap (is_param false) (sym none) ∙ index_param ds [] i))
 
 abbrev LastFirst : List Part → Type 0
-LastFirst before = (a : ℕ) → last_named before ≡ some a → 1 ≤ a
+LastFirst before = (a : ℕ) → last_named before ≡ Some a → 1 ≤ a
 
 names-first : {before : List Part} {choice : Choice} {rest : List ℕ} {a : ℕ} → LastFirst before → Names before choice rest a → 1 ≤ a
 names-first l (by_last {a} e) = l a e
@@ -45,7 +45,7 @@ names-first l (by_index {ds} i n) = index-first ds i
 names-first l (by_count u) = omega arith
 
 last-first : {before : List Part} {choice : Choice} {rest : List ℕ} {a : ℕ} → LastFirst before → Names before choice rest a
-    → (b : ℕ) → named_by choice a (last_named before) ≡ some b → 1 ≤ b
+    → (b : ℕ) → named_by choice a (last_named before) ≡ Some b → 1 ≤ b
 last-first l (by_last e) b q = l b q
 last-first l (by_index {ds} i n) b q = let z : number_in ds ≡ b = cc in subst (λ (n : ℕ). 1 ≤ n) z (index-first ds i)
 last-first {before} l (by_count u) b q = let z : suc (counted_in before) ≡ b = cc in omega arith

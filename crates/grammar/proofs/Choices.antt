@@ -1,8 +1,8 @@
 -- The argument that an element takes, as reading finds it behind the parts before it. Assumes nothing.
+use Rattle.std.specs.Prelude.{Option, Some, Err}
 use mathlib.Core.Path.{◌≡◌, refl, sym, ap, subst, ◌∙◌}
 use mathlib.Core.Bool.{Bool, true, false}
 use mathlib.Core.List.{List, [], ◌∷◌, ◌++◌, append_assoc}
-use mathlib.Core.Option.{Option, some}
 use Prim.Native.Nat.{ℕ, suc, ◌+◌, ◌≤◌, ◌<◌}
 use Prim.Native.Char.{code}
 use native.Mathlib.Numerals.{add-one}
@@ -15,10 +15,8 @@ use Rattle.refusals.specs.Limits.{largest_number}
 use Rattle.writing.specs.Text.{ascii, has}
 use Rattle.writing.proofs.Choose.{both}
 use Rattle.specifiers.specs.Params.{is_digit, leading_digits, is_param, number_at}
-use Rattle.specifiers.specs.declared.params.Number.{Number}
 use Rattle.specifiers.specs.Specifier.{begins_with}
 use Rattle.parsing.specs.Indexes.{among_kinds, index_of, is_index, index_at, same_index}
-use Rattle.parsing.specs.declared.arguments.Index.TheVariants as I
 use Rattle.parsing.specs.Pieces.{argument_at}
 use Rattle.parsing.specs.declared.Cursor.{Cursor}
 use Rattle.grammar.specs.Runs.{begins, Run, number_in}
@@ -28,6 +26,8 @@ use Rattle.grammar.specs.Pieces.{IsLast, At}
 use Rattle.grammar.proofs.Runs.{leading, leading_split, digits-leading, digits-length}
 use Rattle.grammar.proofs.Letters.{never}
 use Rattle.grammar.proofs.Places.{drop-behind, digits-here, number_read, number_large, index_param, index-begins, index_of_lem}
+use Rattle.refusals.specs.Numbers.{Parsed}
+use Rattle.refusals.specs.declared.Refusal.TheVariants.{LargeNumber}
 
 -- one byte or another, by the tests that reading makes
 pub begins_with_lem : (b : ℕ) (l : List ℕ) → begins (λ c. eqb c b) l ≡ begins_with b l
@@ -86,7 +86,7 @@ module _ (s : List ℕ) (n : ℕ) (c : Cursor) (before : List Part) (at : At bef
   unfolding argument_at
   same_step rest here = simp (behind-percent (code "<" ∷ rest) here)
 
-  last_chosen : {a : ℕ} (rest : List ℕ) → last_named before ≡ some a → drop c.at s ≡ code "%" ∷ (code "<" ∷ rest) → Chosen s n c same a rest
+  last_chosen : {a : ℕ} (rest : List ℕ) → last_named before ≡ Some a → drop c.at s ≡ code "%" ∷ (code "<" ∷ rest) → Chosen s n c same a rest
   last_chosen {a} rest named here =
       let k = subst (λ (x : Option ℕ). IsLast x c.last) named at.last in
       record {
@@ -115,15 +115,15 @@ module _ (s : List ℕ) (n : ℕ) (c : Cursor) (before : List Part) (at : At bef
       next = c.at + 1 + length ds + 1;
       step =
           index_step
-          ∙ ap (λ (x : Number). index_of x n c.count) (number_read s (c.at + 1) ds (code "$" ∷ rest) digits_behind (index-run ds rest i) h);
+          ∙ ap (λ (x : Parsed ℕ). index_of x n c.count) (number_read s (c.at + 1) ds (code "$" ∷ rest) digits_behind (index-run ds rest i) h);
       left =
           drop-behind s (c.at + 1 + length ds) (code "$" ∷ []) rest (drop-behind s (c.at + 1) ds (code "$" ∷ rest) digits_behind);
     }
 
-    pub index_large : largest_number < number_in ds → argument_at s n c ≡ I.Refused 6
+    pub index_large : largest_number < number_in ds → argument_at s n c ≡ Err LargeNumber
     index_large h =
         index_step
-        ∙ ap (λ (x : Number). index_of x n c.count) (number_large s (c.at + 1) ds (code "$" ∷ rest) digits_behind (index-run ds rest i) h)
+        ∙ ap (λ (x : Parsed ℕ). index_of x n c.count) (number_large s (c.at + 1) ds (code "$" ∷ rest) digits_behind (index-run ds rest i) h)
 
   -- the running count
   count_chosen : (rest : List ℕ) → NoChoice rest → drop c.at s ≡ code "%" ∷ rest → Chosen s n c counted (suc c.count) rest

@@ -1,8 +1,8 @@
 -- The first flag that offends against one before it, as reading finds it. Assumes nothing.
+use Rattle.std.specs.Prelude.{Option, None, Some}
 use mathlib.Core.Path.{◌≡◌, refl, sym, ap, subst, ◌∙◌}
 use mathlib.Core.Bool.{Bool, true, false, ◌&&◌, ◌||◌}
 use mathlib.Core.List.{List, [], ◌∷◌, ◌++◌, append_assoc, append-nil}
-use mathlib.Core.Option.{Option, none, some}
 use Prim.Native.Nat.{ℕ}
 use Prim.Native.Char.{code}
 use native.Mathlib.Omega.{arith}
@@ -13,12 +13,13 @@ use Rattle.writing.specs.Text.{has}
 use Rattle.writing.proofs.Choose.{by_test, both}
 use Rattle.specifiers.specs.Flags.{clash, or_later, first_clash}
 use Rattle.grammar.specs.Elements.{Clash, zero_after_minus, plus_after_space, space_after_plus, Free}
+use Rattle.refusals.specs.declared.Refusal.{Refusal}
 
 -- a list that ends with something is not empty; the heads and tails of one list
 no_cons : (x : ℕ) (f g : List ℕ) → [] ≡ f ++ (x ∷ g) → ⊥
 no_cons x f g e = let z : 0 ≡ length (f ++ (x ∷ g)) = ap length e in omega (arith, z, length-append f (x ∷ g))
 
-never : (n : ℕ) → ◌≡◌ {A = Option ℕ} none (some n) → ⊥
+never : (n : Refusal) → ◌≡◌ {A = Option Refusal} None (Some n) → ⊥
 never n e = let z : ◌≡◌ {A = ℕ} 0 1 = cc in omega arith
 
 -- one of two
@@ -27,12 +28,12 @@ by_either true b e f g = f refl
 by_either false b e f g = g e
 
 module _ (before : List ℕ) (b : ℕ) where
-  clash_some : (n : ℕ) → clash before b ≡ some n → Clash before b n
+  clash_some : (n : Refusal) → clash before b ≡ Some n → Clash before b n
   clash_some n =
-      by_test (λ (x : Option ℕ). x ≡ some n → Clash before b n) (eqb b (code "0") && has before (code "-")) _ _
+      by_test (λ (x : Option Refusal). x ≡ Some n → Clash before b n) (eqb b (code "0") && has before (code "-")) _ _
       (λ t e. let p = both (eqb b (code "0")) (has before (code "-")) t in
       subst (Clash before b) (inside e) (zero_after_minus (eqb-true b (code "0") p.0) p.1))
-      (λ _. by_test (λ (x : Option ℕ). x ≡ some n → Clash before b n)
+      (λ _. by_test (λ (x : Option Refusal). x ≡ Some n → Clash before b n)
       ((eqb b (code "+") && has before (code " ")) || (eqb b (code " ") && has before (code "+"))) _ _
       (λ t e. subst (Clash before b) (inside e)
       (by_either (eqb b (code "+") && has before (code " ")) (eqb b (code " ") && has before (code "+")) t
@@ -40,10 +41,10 @@ module _ (before : List ℕ) (b : ℕ) where
       (λ t. let p = both (eqb b (code " ")) (has before (code "+")) t in space_after_plus (eqb-true b (code " ") p.0) p.1)))
       (λ _ e. absurd (never n e)))
     where
-      inside : {k : ℕ} → some k ≡ some n → k ≡ n
+      inside : {k : Refusal} → Some k ≡ Some n → k ≡ n
       inside e = cc
 
-  clash-is : (n : ℕ) → Clash before b n → clash before b ≡ some n
+  clash-is : (n : Refusal) → Clash before b n → clash before b ≡ Some n
   clash-is n (zero_after_minus e h) = simp (eq-eqb b (code "0") e, h)
   clash-is n (plus_after_space e h) = simp (ne_eqb b (code "0") (λ r. omega arith), eq-eqb b (code "+") e, h)
   clash-is n (space_after_plus e h) =
@@ -51,10 +52,10 @@ module _ (before : List ℕ) (b : ℕ) where
 
 -- No flag of bs offends against those before it, of which `before` stand in front.
 abbrev FreeFrom : List ℕ → List ℕ → Type 0
-FreeFrom before bs = (f : List ℕ) (b : ℕ) (g : List ℕ) (n : ℕ) → bs ≡ f ++ (b ∷ g) → Clash (before ++ f) b n → ⊥
+FreeFrom before bs = (f : List ℕ) (b : ℕ) (g : List ℕ) (n : Refusal) → bs ≡ f ++ (b ∷ g) → Clash (before ++ f) b n → ⊥
 
 -- The first that does.
-pub record First (before bs : List ℕ) (n : ℕ) : Type 0 where
+pub record First (before bs : List ℕ) (n : Refusal) : Type 0 where
   pub f : List ℕ
   pub b : ℕ
   pub g : List ℕ
@@ -66,25 +67,25 @@ next_flag : (before : List ℕ) (x : ℕ) (f : List ℕ) → (before ++ (x ∷ [
 next_flag before x f = append_assoc before (x ∷ []) f
 
 -- reading finds none
-first-none : (before bs : List ℕ) → first_clash before bs ≡ none → FreeFrom before bs
+first-none : (before bs : List ℕ) → first_clash before bs ≡ None → FreeFrom before bs
 unfolding first_clash
 first-none before [] e f b g n q c = absurd (no_cons b f g q)
 first-none before (x ∷ bs) e f b g n q c = go (clash before x) refl (first-none (before ++ (x ∷ [])) bs) e f q c
   where
-    go : (t : Option ℕ) → clash before x ≡ t → (first_clash (before ++ (x ∷ [])) bs ≡ none → FreeFrom (before ++ (x ∷ [])) bs)
-        → or_later t (λ _. first_clash (before ++ (x ∷ [])) bs) ≡ none → (f : List ℕ) → x ∷ bs ≡ f ++ (b ∷ g) → Clash (before ++ f) b n → ⊥
-    go (some k) p ih e f q c = never k (sym e)
-    go none p ih e [] q c =
+    go : (t : Option Refusal) → clash before x ≡ t → (first_clash (before ++ (x ∷ [])) bs ≡ None → FreeFrom (before ++ (x ∷ [])) bs)
+        → or_later t (λ _. first_clash (before ++ (x ∷ [])) bs) ≡ None → (f : List ℕ) → x ∷ bs ≡ f ++ (b ∷ g) → Clash (before ++ f) b n → ⊥
+    go (Some k) p ih e f q c = never k (sym e)
+    go None p ih e [] q c =
         let same : x ≡ b = cc in
         let d : Clash before x n = subst (λ (y : ℕ). Clash before y n) (sym same) (subst (λ (l : List ℕ). Clash l b n) (append-nil before) c) in
         never n (sym p ∙ clash-is before x n d)
-    go none p ih e (y ∷ f) q c =
+    go None p ih e (y ∷ f) q c =
         let same : x ≡ y = cc in
         let rest : bs ≡ f ++ (b ∷ g) = cc in
         let d : Clash (before ++ (x ∷ f)) b n = subst (λ (z : ℕ). Clash (before ++ (z ∷ f)) b n) (sym same) c in
         ih e f b g n rest (subst (λ (l : List ℕ). Clash l b n) (sym (next_flag before x f)) d)
 
-none_first : (before bs : List ℕ) → FreeFrom before bs → first_clash before bs ≡ none
+none_first : (before bs : List ℕ) → FreeFrom before bs → first_clash before bs ≡ None
 unfolding first_clash
 none_first before [] h = refl
 none_first before (x ∷ bs) h = go (clash before x) refl (none_first (before ++ (x ∷ [])) bs later)
@@ -92,19 +93,19 @@ none_first before (x ∷ bs) h = go (clash before x) refl (none_first (before ++
     later : FreeFrom (before ++ (x ∷ [])) bs
     later f b g n q c = h (x ∷ f) b g n (ap (λ (l : List ℕ). x ∷ l) q) (subst (λ (l : List ℕ). Clash l b n) (next_flag before x f) c)
 
-    go : (t : Option ℕ) → clash before x ≡ t → first_clash (before ++ (x ∷ [])) bs ≡ none → or_later t (λ _. first_clash (before ++ (x ∷ [])) bs) ≡ none
-    go none p ih = ih
-    go (some k) p ih = absurd (h [] x bs k refl (subst (λ (l : List ℕ). Clash l x k) (sym (append-nil before)) (clash_some before x k p)))
+    go : (t : Option Refusal) → clash before x ≡ t → first_clash (before ++ (x ∷ [])) bs ≡ None → or_later t (λ _. first_clash (before ++ (x ∷ [])) bs) ≡ None
+    go None p ih = ih
+    go (Some k) p ih = absurd (h [] x bs k refl (subst (λ (l : List ℕ). Clash l x k) (sym (append-nil before)) (clash_some before x k p)))
 
 -- reading finds one
-first_some : (before bs : List ℕ) (n : ℕ) → first_clash before bs ≡ some n → First before bs n
+first_some : (before bs : List ℕ) (n : Refusal) → first_clash before bs ≡ Some n → First before bs n
 unfolding first_clash
 first_some before [] n e = absurd (never n e)
 first_some before (x ∷ bs) n e = go (clash before x) refl (first_some (before ++ (x ∷ [])) bs n) e
   where
-    go : (t : Option ℕ) → clash before x ≡ t → (first_clash (before ++ (x ∷ [])) bs ≡ some n → First (before ++ (x ∷ [])) bs n)
-        → or_later t (λ _. first_clash (before ++ (x ∷ [])) bs) ≡ some n → First before (x ∷ bs) n
-    go (some k) p ih e =
+    go : (t : Option Refusal) → clash before x ≡ t → (first_clash (before ++ (x ∷ [])) bs ≡ Some n → First (before ++ (x ∷ [])) bs n)
+        → or_later t (λ _. first_clash (before ++ (x ∷ [])) bs) ≡ Some n → First before (x ∷ bs) n
+    go (Some k) p ih e =
         let same : k ≡ n = cc in
         record {
           f = [];
@@ -112,9 +113,9 @@ first_some before (x ∷ bs) n e = go (clash before x) refl (first_some (before 
           g = bs;
           split = refl;
           free = λ f b g n q c. no_cons b f g q;
-          clash = subst (λ (l : List ℕ). Clash l x n) (sym (append-nil before)) (clash_some before x n (p ∙ ap some same));
+          clash = subst (λ (l : List ℕ). Clash l x n) (sym (append-nil before)) (clash_some before x n (p ∙ ap Some same));
         }
-    go none p ih e =
+    go None p ih e =
         let r = ih e in
         record {
           f = x ∷ r.f;
@@ -136,11 +137,11 @@ first_some before (x ∷ bs) n e = go (clash before x) refl (first_some (before 
             let d : Clash (before ++ (x ∷ f)) b m = subst (λ (z : ℕ). Clash (before ++ (z ∷ f)) b m) (sym same) c in
             h f b g m rest (subst (λ (k : List ℕ). Clash k b m) (sym (next_flag before x f)) d)
 
-some_first : (before f : List ℕ) (b : ℕ) (g : List ℕ) (n : ℕ) → FreeFrom before f → Clash (before ++ f) b n → first_clash before (f ++ (b ∷ g)) ≡ some n
+some_first : (before f : List ℕ) (b : ℕ) (g : List ℕ) (n : Refusal) → FreeFrom before f → Clash (before ++ f) b n → first_clash before (f ++ (b ∷ g)) ≡ Some n
 unfolding first_clash
 some_first before [] b g n h c =
     let d : Clash before b n = subst (λ (l : List ℕ). Clash l b n) (append-nil before) c in
-    ap (λ (t : Option ℕ). or_later t (λ _. first_clash (before ++ (b ∷ [])) g)) (clash-is before b n d)
+    ap (λ (t : Option Refusal). or_later t (λ _. first_clash (before ++ (b ∷ [])) g)) (clash-is before b n d)
 some_first before (x ∷ f) b g n h c =
     go (clash before x) refl
     (some_first (before ++ (x ∷ [])) f b g n later (subst (λ (l : List ℕ). Clash l b n) (sym (next_flag before x f)) c))
@@ -148,20 +149,20 @@ some_first before (x ∷ f) b g n h c =
     later : FreeFrom (before ++ (x ∷ [])) f
     later u y v m q d = h (x ∷ u) y v m (ap (λ (l : List ℕ). x ∷ l) q) (subst (λ (l : List ℕ). Clash l y m) (next_flag before x u) d)
 
-    go : (t : Option ℕ) → clash before x ≡ t → first_clash (before ++ (x ∷ [])) (f ++ (b ∷ g)) ≡ some n
-        → or_later t (λ _. first_clash (before ++ (x ∷ [])) (f ++ (b ∷ g))) ≡ some n
-    go none p ih = ih
-    go (some k) p ih = absurd (h [] x f k refl (subst (λ (l : List ℕ). Clash l x k) (sym (append-nil before)) (clash_some before x k p)))
+    go : (t : Option Refusal) → clash before x ≡ t → first_clash (before ++ (x ∷ [])) (f ++ (b ∷ g)) ≡ Some n
+        → or_later t (λ _. first_clash (before ++ (x ∷ [])) (f ++ (b ∷ g))) ≡ Some n
+    go None p ih = ih
+    go (Some k) p ih = absurd (h [] x f k refl (subst (λ (l : List ℕ). Clash l x k) (sym (append-nil before)) (clash_some before x k p)))
 
 -- of all the flags of an element
-pub flags-free : (bs : List ℕ) → first_clash [] bs ≡ none → Free bs
+pub flags-free : (bs : List ℕ) → first_clash [] bs ≡ None → Free bs
 flags-free bs e = first-none [] bs e
 
-pub free-flags : (bs : List ℕ) → Free bs → first_clash [] bs ≡ none
+pub free-flags : (bs : List ℕ) → Free bs → first_clash [] bs ≡ None
 free-flags bs h = none_first [] bs h
 
-pub flags-clash : (bs : List ℕ) (n : ℕ) → first_clash [] bs ≡ some n → First [] bs n
+pub flags-clash : (bs : List ℕ) (n : Refusal) → first_clash [] bs ≡ Some n → First [] bs n
 flags-clash bs n e = first_some [] bs n e
 
-pub clash-flags : (f : List ℕ) (b : ℕ) (g : List ℕ) (n : ℕ) → Free f → Clash f b n → first_clash [] (f ++ (b ∷ g)) ≡ some n
+pub clash-flags : (f : List ℕ) (b : ℕ) (g : List ℕ) (n : Refusal) → Free f → Clash f b n → first_clash [] (f ++ (b ∷ g)) ≡ Some n
 clash-flags f b g n h c = some_first [] f b g n h c

@@ -1,25 +1,23 @@
 -- A part that stands in the format is found as the piece it is, and the cursor behind it counts it. Assumes nothing.
+use Rattle.std.specs.Prelude.{Option, Ok}
 use mathlib.Core.Path.{◌≡◌, refl, sym, ap, subst, ◌∙◌}
 use mathlib.Core.Bool.{Bool, true, false, not}
 use mathlib.Core.List.{List, [], ◌∷◌, ◌++◌, append_assoc}
-use mathlib.Core.Option.{Option}
 use Prim.Native.Nat.{ℕ, ◌+◌, ◌-◌, ◌≤◌, ◌<◌}
 use Prim.Native.Char.{code}
 use native.Mathlib.Omega.{arith}
 use lib.Dec.{eqb}
 use lib.ListN.{length, get_or, drop, length-append, length-drop}
 use Rattle.writing.specs.Text.{ascii}
-use Rattle.kinds.specs.Kinds.{kind_in, fit_of}
+use Rattle.kinds.specs.Kinds.{kind_in, fit_in}
 use Rattle.specifiers.specs.Flags.{flags_of}
 use Rattle.specifiers.specs.Specifier.{begins_with, specifier_at}
 use Rattle.specifiers.specs.declared.Element.{Element}
-use Rattle.specifiers.specs.declared.Specifier.TheVariants as S
 use Rattle.parsing.specs.Texts.{text_length}
 use Rattle.parsing.specs.Pieces.{passed, after_specifier, piece_at}
 use Rattle.parsing.specs.declared.Cursor.{Cursor}
 use Rattle.parsing.specs.declared.Piece.{Piece}
 use Rattle.parsing.specs.declared.Piece.TheVariants.{Fixed, Byte, Element as AnElement}
-use Rattle.parsing.specs.declared.Step.TheVariants.{Found}
 use Rattle.parsing.proofs.Progress.{advanced}
 use Rattle.grammar.specs.Runs.{begins, Run}
 use Rattle.grammar.specs.Parts.{Choice, Written, element_bytes}
@@ -55,14 +53,14 @@ last-next (by_count u) h = (refl, h)
 pub record Finds (s ks : List ℕ) (c : Cursor) (before : List Part) (p : Part) (rest : List ℕ) : Type 0 where
   pub piece : Piece
   pub next : Cursor
-  pub found : piece_at s ks c ≡ Found piece next
+  pub found : piece_at s ks c ≡ Ok (piece, next)
   pub left : drop next.at s ≡ rest
   pub is : PieceIs ks c.at piece p
   pub at : At (p ∷ before) next
 
 module _ (s ks : List ℕ) (c : Cursor) (before : List Part) (at : At before c) (inside : c.at < length s) where
   -- what the numbers of the next cursor mean, where its place is that of `rest`
-  next_at : {p : Part} {piece : Piece} {next : Cursor} (rest : List ℕ) → piece_at s ks c ≡ Found piece next → drop c.at s ≡ part_bytes p ++ rest
+  next_at : {p : Part} {piece : Piece} {next : Cursor} (rest : List ℕ) → piece_at s ks c ≡ Ok (piece, next) → drop c.at s ≡ part_bytes p ++ rest
       → drop next.at s ≡ rest → next.count ≡ counted_with p c.count → IsLast (named_with p (last_named before)) next.last → At (p ∷ before) next
   unfolding bytes_before counted_in last_named
   next_at {p} {piece} {next} rest found here left count last =
@@ -100,7 +98,7 @@ module _ (s ks : List ℕ) (c : Cursor) (before : List Part) (at : At before c) 
       count : text_length (drop c.at s) ≡ length t
       count = text-leading (drop c.at s) ∙ ap (λ (l : List ℕ). length (leading not_percent l)) here ∙ ap length (leading-is not_percent run)
 
-      found : piece_at s ks c ≡ Found (Fixed c.at (length t)) (passed c (c.at + length t))
+      found : piece_at s ks c ≡ Ok (Fixed c.at (length t), passed c (c.at + length t))
       found = simp (ap (begins_with (code "%")) here ∙ no_percent t b, count)
 
   percent_found : (rest : List ℕ) → drop c.at s ≡ ascii "%%" ++ rest → Finds s ks c before percent rest
@@ -117,7 +115,7 @@ module _ (s ks : List ℕ) (c : Cursor) (before : List Part) (at : At before c) 
       left : drop (c.at + 2) s ≡ rest
       left = drop-behind s c.at (ascii "%%") rest here
 
-      found : piece_at s ks c ≡ Found (Fixed (c.at + 1) 1) (passed c (c.at + 2))
+      found : piece_at s ks c ≡ Ok (Fixed (c.at + 1) 1, passed c (c.at + 2))
       found = simp (here, drop-behind s c.at (code "%" ∷ []) (code "%" ∷ rest) here)
 
   newline_found : (rest : List ℕ) → drop c.at s ≡ ascii "%n" ++ rest → Finds s ks c before newline rest
@@ -134,12 +132,12 @@ module _ (s ks : List ℕ) (c : Cursor) (before : List Part) (at : At before c) 
       left : drop (c.at + 2) s ≡ rest
       left = drop-behind s c.at (ascii "%n") rest here
 
-      found : piece_at s ks c ≡ Found (Byte 10) (passed c (c.at + 2))
+      found : piece_at s ks c ≡ Ok (Byte 10, passed c (c.at + 2))
       found = simp (here, drop-behind s c.at (code "%" ∷ []) (code "n" ∷ rest) here)
 
   module _ (known : KindsKnown ks) (r : List ℕ) (here : drop c.at s ≡ r) {w : Written} {rest : List ℕ} (x : Lettered (length ks) before r w rest)
       (fit : fits_bytes w.letter (kind_at ks w.argument) ≡ true) where
-    form_found : IsFit (fit_of (is-letter s ks c before at r here known x).conversion (kind_in (get_or ks (w.argument - 1) 0)))
+    form_found : IsFit (fit_in (is-letter s ks c before at r here known x).conversion (kind_in (get_or ks (w.argument - 1) 0)))
     form_found = is_fit_lem _ (same_fit s ks c before at r here known x ∙ fit)
 
     holds : Element
@@ -160,12 +158,12 @@ module _ (s ks : List ℕ) (c : Cursor) (before : List Part) (at : At before c) 
       last = w.argument;
     }
 
-    element_found : piece_at s ks c ≡ Found (AnElement holds) behind
+    element_found : piece_at s ks c ≡ Ok (AnElement holds, behind)
     unfolding holds behind
     element_found =
         let h = (so_far s ks c before at r here known x).width.flags.argued in
         let n = named_so s ks c before at r here known x in
-        let q : specifier_at s h.next w.argument (kind_in (get_or ks (w.argument - 1) 0)) ≡ S.Read holds behind.at =
+        let q : specifier_at s h.next w.argument (kind_in (get_or ks (w.argument - 1) 0)) ≡ Ok (holds, behind.at) =
         read-letter s ks c before at r here known x ∙ simp form_found.is in
         specifier_step s ks c before at r here n h ∙ ap (after_specifier w.argument (counted_by w.choice c.count)) q
 

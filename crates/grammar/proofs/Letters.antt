@@ -1,4 +1,5 @@
 -- The letters that 01 lists are those that reading knows, and they fit the kinds as its table says. Assumes nothing.
+use Rattle.std.specs.Prelude.{None, Option, Some, Err, Ok}
 use mathlib.Core.Path.{◌≡◌, refl, sym, ap, subst, ◌∙◌}
 use mathlib.Core.Bool.{Bool, true, false, not, ◌&&◌, ◌||◌}
 use mathlib.Core.List.{List, [], ◌∷◌, ◌++◌}
@@ -12,24 +13,17 @@ use Rattle.writing.specs.Choose.{choose}
 use Rattle.writing.specs.Text.{ascii, has}
 use Rattle.writing.proofs.Choose.{by_test, both}
 use Rattle.kinds.specs.Letters.{lookup, time_letters as timeTable, time_of, small_letters, small_of, capital_letters, capital_of}
-use Rattle.kinds.specs.Kinds.{kinds as table, kind_of, is_known, fit_of}
+use Rattle.kinds.specs.Kinds.{kinds as table, kind_of, is_known, fit_in}
 use Rattle.kinds.specs.declared.letters.ConversionType.{ConversionType}
 use Rattle.kinds.specs.declared.letters.ConversionType.TheVariants.{Time}
-use Rattle.kinds.specs.declared.Kind.TheVariants.{NoKind}
 use Rattle.kinds.specs.declared.Form.{Form}
-use Rattle.kinds.specs.declared.Fit.{Fit}
-use Rattle.kinds.specs.declared.Fit.TheVariants.{Fits, Unfit}
 use Rattle.kinds.specs.declared.letters.TimeFormat.{TimeFormat}
-use Rattle.kinds.specs.declared.letters.Letter.{Letter}
-use Rattle.kinds.specs.declared.letters.Letter.TheVariants.{Conversion, NoConversion}
-use Rattle.kinds.specs.declared.letters.TimeLetter.{TimeLetter}
-use Rattle.kinds.specs.declared.letters.TimeLetter.TheVariants.{Component, NoComponent}
 use Rattle.specifiers.specs.Specifier.{capital_taken, one_letter, time_letter, second_letter, letter_from}
-use Rattle.specifiers.specs.declared.LetterTaken.{LetterTaken}
-use Rattle.specifiers.specs.declared.LetterTaken.TheVariants as L
 use Rattle.grammar.specs.Runs.{begins, all}
 use Rattle.grammar.specs.Pieces.{letters_of, component_letters, names_component, capitals}
 use Rattle.grammar.specs.Elements.{letters, time_letters, IsLetter, plain, time, kinds, needs, in_table, fits_bytes}
+use Rattle.refusals.specs.Numbers.{Parsed}
+use Rattle.refusals.specs.declared.Refusal.TheVariants.{NoLetter, NoTimeLetter}
 
 pub never : false ≡ true → ⊥
 never e = let z : ◌≡◌ {A = ℕ} 0 1 = cc in omega arith
@@ -61,30 +55,30 @@ module _ {R A B : Type 0} (key : R → ℕ) (found : A → B) (others : B) where
       (λ e. absurd (never (sym h ∙ ap (has l) (eqb-true b (key r.0) e) ∙ p.0))) (λ _. no_key l rows b p.1 h)
 
 -- Whether a letter was read, and which.
-abbrev was_read : LetterTaken → Bool
-was_read (L.Read c u at) = true
-was_read (L.Refused n) = false
+abbrev was_read : Parsed (ConversionType × Bool) → Bool
+was_read (Ok ((c, u), at)) = true
+was_read (Err n) = false
 
-abbrev pub is_fit : Fit → Bool
-is_fit (Fits f) = true
-is_fit Unfit = false
+abbrev pub is_fit : Option Form → Bool
+is_fit (Some f) = true
+is_fit None = false
 
 -- the form of what fits
-pub record IsFit (f : Fit) : Type 0 where
+pub record IsFit (f : Option Form) : Type 0 where
   pub form : Form
-  pub is : f ≡ Fits form
+  pub is : f ≡ Some form
 
-pub is_fit_lem : (f : Fit) → is_fit f ≡ true → IsFit f
-is_fit_lem (Fits f) e = record { form = f; is = refl }
-is_fit_lem Unfit e = absurd (never e)
+pub is_fit_lem : (f : Option Form) → is_fit f ≡ true → IsFit f
+is_fit_lem (Some f) e = record { form = f; is = refl }
+is_fit_lem None e = absurd (never e)
 
-pub is_unfit : (f : Fit) → is_fit f ≡ false → f ≡ Unfit
-is_unfit (Fits f) e = absurd (never (sym e))
-is_unfit Unfit e = refl
+pub is_unfit : (f : Option Form) → is_fit f ≡ false → f ≡ None
+is_unfit (Some f) e = absurd (never (sym e))
+is_unfit None e = refl
 
-abbrev fits_read : LetterTaken → ℕ → Bool
-fits_read (L.Read c u at) k = is_fit (fit_of c (kind_of k))
-fits_read (L.Refused n) k = false
+abbrev fits_read : Parsed (ConversionType × Bool) → ℕ → Bool
+fits_read (Ok ((c, u), at)) k = is_fit (fit_in c (kind_of k))
+fits_read (Err n) k = false
 
 abbrev pub same : Bool → Bool → Bool
 same true b = b
@@ -95,7 +89,7 @@ same-is true b e = sym e
 same-is false true e = absurd (never e)
 same-is false false e = refl
 
-unfoldable pub one : ℕ → LetterTaken
+unfoldable pub one : ℕ → Parsed (ConversionType × Bool)
 one b = one_letter (small_of b) (capital_of b) 0
 
 all_read : all (λ b. was_read (one b)) letters ≡ true
@@ -107,18 +101,18 @@ unfolding all has one small_of capital_of kind_of
 all_fit = refl
 
 -- which conversion a letter names, and whether it is a capital
-abbrev names_read : LetterTaken → ℕ → Bool
-names_read (L.Read c u at) b = has (letters_of c) b && (same u (has capitals b) && names_component c [])
-names_read (L.Refused n) b = false
+abbrev names_read : Parsed (ConversionType × Bool) → ℕ → Bool
+names_read (Ok ((c, u), at)) b = has (letters_of c) b && (same u (has capitals b) && names_component c [])
+names_read (Err n) b = false
 
 all_named : all (λ b. names_read (one b) b) letters ≡ true
 unfolding all has one small_of capital_of
 all_named = refl
 
 -- which component a letter behind t or T names
-abbrev names_time : TimeLetter → ℕ → Bool
-names_time (Component y) b = has (component_letters y) b
-names_time NoComponent b = false
+abbrev names_time : Option TimeFormat → ℕ → Bool
+names_time (Some y) b = has (component_letters y) b
+names_time None b = false
 
 all_times : all (λ b. names_time (time_of b) b) time_letters ≡ true
 unfolding all has time_of
@@ -126,8 +120,8 @@ all_times = refl
 
 -- A letter is read, behind the place where it stands; it fits a kind as the table says.
 pub record LetterIs (x : List ℕ) (c : ConversionType) (u : Bool) : Type 0 where
-  pub read : (rest : List ℕ) (at : ℕ) → letter_from (x ++ rest) at ≡ L.Read c u (at + length x)
-  pub fits_as : (k : ℕ) → has kinds k ≡ true → fits_bytes x k ≡ is_fit (fit_of c (kind_of k))
+  pub read : (rest : List ℕ) (at : ℕ) → letter_from (x ++ rest) at ≡ Ok ((c, u), (at + length x))
+  pub fits_as : (k : ℕ) → has kinds k ≡ true → fits_bytes x k ≡ is_fit (fit_in c (kind_of k))
   pub named : begins (has (letters_of c)) x ≡ true
   pub component : names_component c (drop 1 x) ≡ true
   pub capital : u ≡ begins (has capitals) x
@@ -162,40 +156,40 @@ plain-letter l h = go (small_of l) (capital_of l) refl refl (all-has (λ b. was_
     names : names_read (one l) l ≡ true
     names = all-has (λ b. names_read (one b) b) letters l all_named h
 
-    named_so : (c : ConversionType) (u : Bool) → one l ≡ L.Read c u 1 → (has (letters_of c) l ≡ true) × (u ≡ has capitals l) × (names_component c [] ≡ true)
+    named_so : (c : ConversionType) (u : Bool) → one l ≡ Ok ((c, u), 1) → (has (letters_of c) l ≡ true) × (u ≡ has capitals l) × (names_component c [] ≡ true)
     named_so c u e =
-        let p = both (has (letters_of c) l) (same u (has capitals l) && names_component c []) (ap (λ (t : LetterTaken). names_read t l) (sym e) ∙ names) in
+        let p = both (has (letters_of c) l) (same u (has capitals l) && names_component c []) (ap (λ (t : Parsed (ConversionType × Bool)). names_read t l) (sym e) ∙ names) in
         let q = both (same u (has capitals l)) (names_component c []) p.1 in
         (p.0, same-is u (has capitals l) q.0, q.1)
 
     at_once : (rest : List ℕ) (at : ℕ) → letter_from (l ∷ rest) at ≡ one_letter (small_of l) (capital_of l) at
     at_once rest at = let n = not_time l h in simp (n.0, n.1)
 
-    go : (x y : Letter) → small_of l ≡ x → capital_of l ≡ y → was_read (one_letter x y 0) ≡ true → SomeLetter (l ∷ [])
-    go (Conversion c) y p q r = record {
+    go : (x y : Option ConversionType) → small_of l ≡ x → capital_of l ≡ y → was_read (one_letter x y 0) ≡ true → SomeLetter (l ∷ [])
+    go (Some c) y p q r = record {
       conversion = c;
       upper = false;
       is = record {
-        read = λ rest at. at_once rest at ∙ ap (λ (x : Letter). one_letter x (capital_of l) at) p;
-        fits_as = λ k i. as_table k i ∙ ap (λ (x : Letter). fits_read (one_letter x (capital_of l) 0) k) p;
-        named = (named_so c false (ap (λ (x : Letter). one_letter x (capital_of l) 0) p)).0;
-        component = (named_so c false (ap (λ (x : Letter). one_letter x (capital_of l) 0) p)).2;
-        capital = (named_so c false (ap (λ (x : Letter). one_letter x (capital_of l) 0) p)).1;
+        read = λ rest at. at_once rest at ∙ ap (λ (x : Option ConversionType). one_letter x (capital_of l) at) p;
+        fits_as = λ k i. as_table k i ∙ ap (λ (x : Option ConversionType). fits_read (one_letter x (capital_of l) 0) k) p;
+        named = (named_so c false (ap (λ (x : Option ConversionType). one_letter x (capital_of l) 0) p)).0;
+        component = (named_so c false (ap (λ (x : Option ConversionType). one_letter x (capital_of l) 0) p)).2;
+        capital = (named_so c false (ap (λ (x : Option ConversionType). one_letter x (capital_of l) 0) p)).1;
       };
     }
-    go NoConversion (Conversion c) p q r = record {
+    go None (Some c) p q r = record {
       conversion = c;
       upper = true;
       is = record {
-        read = λ rest at. at_once rest at ∙ ap (λ (x : Letter). one_letter x (capital_of l) at) p ∙ ap (λ (x : Letter). capital_taken x at) q;
+        read = λ rest at. at_once rest at ∙ ap (λ (x : Option ConversionType). one_letter x (capital_of l) at) p ∙ ap (λ (x : Option ConversionType). capital_taken x at) q;
         fits_as = λ k i.
-            as_table k i ∙ ap (λ (x : Letter). fits_read (one_letter x (capital_of l) 0) k) p ∙ ap (λ (x : Letter). fits_read (capital_taken x 0) k) q;
-        named = (named_so c true (ap (λ (x : Letter). one_letter x (capital_of l) 0) p ∙ ap (λ (x : Letter). capital_taken x 0) q)).0;
-        component = (named_so c true (ap (λ (x : Letter). one_letter x (capital_of l) 0) p ∙ ap (λ (x : Letter). capital_taken x 0) q)).2;
-        capital = (named_so c true (ap (λ (x : Letter). one_letter x (capital_of l) 0) p ∙ ap (λ (x : Letter). capital_taken x 0) q)).1;
+            as_table k i ∙ ap (λ (x : Option ConversionType). fits_read (one_letter x (capital_of l) 0) k) p ∙ ap (λ (x : Option ConversionType). fits_read (capital_taken x 0) k) q;
+        named = (named_so c true (ap (λ (x : Option ConversionType). one_letter x (capital_of l) 0) p ∙ ap (λ (x : Option ConversionType). capital_taken x 0) q)).0;
+        component = (named_so c true (ap (λ (x : Option ConversionType). one_letter x (capital_of l) 0) p ∙ ap (λ (x : Option ConversionType). capital_taken x 0) q)).2;
+        capital = (named_so c true (ap (λ (x : Option ConversionType). one_letter x (capital_of l) 0) p ∙ ap (λ (x : Option ConversionType). capital_taken x 0) q)).1;
       };
     }
-    go NoConversion NoConversion p q r = absurd (never r)
+    go None None p q r = absurd (never r)
 
 -- either of t and T
 pub either_time : (t : ℕ) → has (ascii "tT") t ≡ true → (eqb t (code "t") || eqb t (code "T")) ≡ true
@@ -214,10 +208,10 @@ second t h rest at = go (eqb t (code "t")) (eqb t (code "T")) refl refl (either_
     go false false p q e = absurd (never e)
 
 -- what the table of fit says of t and T
-time-fits : (t k : ℕ) (y : TimeFormat) → has (ascii "tT") t ≡ true → has kinds k ≡ true → in_table needs t k ≡ is_fit (fit_of (Time y) (kind_of k))
+time-fits : (t k : ℕ) (y : TimeFormat) → has (ascii "tT") t ≡ true → has kinds k ≡ true → in_table needs t k ≡ is_fit (fit_in (Time y) (kind_of k))
 unfolding all has kind_of
 time-fits t k y h i =
-    let fit : ℕ → Bool = λ k. is_fit (fit_of (Time y) (kind_of k)) in
+    let fit : ℕ → Bool = λ k. is_fit (fit_in (Time y) (kind_of k)) in
     same-is (in_table needs t k) (fit k)
     (all-has (λ k. same (in_table needs t k) (fit k)) kinds k
     (all-has (λ t. all (λ k. same (in_table needs t k) (fit k)) kinds) (ascii "tT") t refl h) i)
@@ -229,43 +223,43 @@ time-capital t h = same-is (eqb t (code "T")) (has capitals t) (all-has (λ t. s
 time-letter : (t l : ℕ) → has (ascii "tT") t ≡ true → has time_letters l ≡ true → SomeLetter (t ∷ l ∷ [])
 time-letter t l h i = go (time_of l) refl (all-has (λ b. names_time (time_of b) b) time_letters l all_times i)
   where
-    go : (x : TimeLetter) → time_of l ≡ x → names_time x l ≡ true → SomeLetter (t ∷ l ∷ [])
-    go (Component y) p r = record {
+    go : (x : Option TimeFormat) → time_of l ≡ x → names_time x l ≡ true → SomeLetter (t ∷ l ∷ [])
+    go (Some y) p r = record {
       conversion = Time y;
       upper = eqb t (code "T");
       is = record {
-        read = λ rest at. second t h (l ∷ rest) at ∙ ap (λ (x : TimeLetter). time_letter (eqb t (code "T")) x at) p;
+        read = λ rest at. second t h (l ∷ rest) at ∙ ap (λ (x : Option TimeFormat). time_letter (eqb t (code "T")) x at) p;
         fits_as = λ k i. time-fits t k y h i;
         named = h;
         component = r;
         capital = time-capital t h;
       };
     }
-    go NoComponent p r = absurd (never r)
+    go None p r = absurd (never r)
 
 pub letter-is : {x : List ℕ} → IsLetter x → SomeLetter x
 letter-is (plain {l} h) = plain-letter l h
 letter-is (time {t} {l} h i) = time-letter t l h i
 
 -- What is no letter is refused.
-pub no_letter-is : (l : List ℕ) (at : ℕ) → begins (has (letters ++ ascii "tT")) l ≡ false → letter_from l at ≡ L.Refused 10
+pub no_letter-is : (l : List ℕ) (at : ℕ) → begins (has (letters ++ ascii "tT")) l ≡ false → letter_from l at ≡ Err NoLetter
 unfolding small_of capital_of keys all has
 no_letter-is [] at h = refl
 no_letter-is (b ∷ bs) at h =
-    let small = no_key code Conversion NoConversion (letters ++ ascii "tT") small_letters b refl h in
-    let capital = no_key code Conversion NoConversion (letters ++ ascii "tT") capital_letters b refl h in
+    let small = no_key code Some None (letters ++ ascii "tT") small_letters b refl h in
+    let capital = no_key code Some None (letters ++ ascii "tT") capital_letters b refl h in
     simp (other (code "t") refl, other (code "T") refl, small, capital)
   where
     other : (d : ℕ) → has (letters ++ ascii "tT") d ≡ true → eqb b d ≡ false
     other d e = ne_eqb b d (λ q. never (sym h ∙ ap (has (letters ++ ascii "tT")) q ∙ e))
 
 pub no_time-is : (t : ℕ) (rest : List ℕ) (at : ℕ) → has (ascii "tT") t ≡ true → begins (has time_letters) rest ≡ false
-    → letter_from (t ∷ rest) at ≡ L.Refused 11
+    → letter_from (t ∷ rest) at ≡ Err NoTimeLetter
 unfolding time_of keys all has
 no_time-is t [] at h i = second t h [] at
 no_time-is t (b ∷ bs) at h i =
     second t h (b ∷ bs) at
-    ∙ ap (λ (x : TimeLetter). time_letter (eqb t (code "T")) x at) (no_key code Component NoComponent time_letters timeTable b refl i)
+    ∙ ap (λ (x : Option TimeFormat). time_letter (eqb t (code "T")) x at) (no_key code Some None time_letters timeTable b refl i)
 
 -- A byte that is a kind is one of those that 01 lists.
 pub known_kind : (k : ℕ) → is_known (kind_of k) ≡ true → has kinds k ≡ true
@@ -275,5 +269,5 @@ known_kind k e = go (has kinds k) refl
     go : (t : Bool) → has kinds k ≡ t → t ≡ true
     go true p = refl
     go false p =
-        let none = no_key (λ b. b) (λ k. k) NoKind kinds table k refl p in
+        let none = no_key (λ b. b) Some None kinds table k refl p in
         absurd (never (sym (ap is_known none) ∙ e))

@@ -1,8 +1,8 @@
 -- What reading takes at a place, where a run stands there: flags, a number. Assumes nothing.
+use Rattle.std.specs.Prelude.{None, Option, Err, Ok}
 use mathlib.Core.Path.{◌≡◌, refl, sym, ap, ◌∙◌}
 use mathlib.Core.Bool.{Bool, true, false, not, ◌&&◌, ◌||◌}
 use mathlib.Core.List.{List, [], ◌∷◌, ◌++◌}
-use mathlib.Core.Option.{Option}
 use Prim.Native.Nat.{ℕ, ◌+◌, ◌≤◌, ◌<◌}
 use Prim.Native.Char.{code}
 use native.Mathlib.Omega.{arith}
@@ -15,17 +15,15 @@ use Rattle.writing.specs.Text.{ascii, has}
 use Rattle.writing.proofs.Choose.{both}
 use Rattle.numerals.specs.Digits.{number_from, number_of}
 use Rattle.specifiers.specs.Params.{is_digit, leading_digits, is_param, number_taken, number_at, param_of, param_at}
-use Rattle.specifiers.specs.declared.params.Number.TheVariants as N
-use Rattle.numerals.specs.declared.NumericParam.TheVariants.{FromArgument}
-use Rattle.specifiers.specs.declared.params.Taken.TheVariants.{Param, TooLarge}
 use Rattle.specifiers.specs.Flags.{leading_flags, flags_of, first_clash, flags_taken, flags_at}
-use Rattle.specifiers.specs.declared.flags.FlagsTaken.TheVariants as F
 use Rattle.grammar.specs.Runs.{begins, all, Run, number_in}
 use Rattle.grammar.specs.Elements.{IsIndex, is_flag, Clash, Free}
 use Rattle.grammar.specs.Pieces.{param_read}
 use Rattle.grammar.proofs.Runs.{leading, leading-run, leading-is, flags-leading, digits_of, digits-leading, digits-length}
 use Rattle.grammar.proofs.Clashes.{free-flags, clash-flags}
 use Rattle.grammar.proofs.Letters.{never}
+use Rattle.refusals.specs.declared.Refusal.TheVariants.{LargeNumber}
+use Rattle.refusals.specs.declared.Refusal.{Refusal}
 
 -- what stands behind a run
 pub drop-behind : (s : List ℕ) (i : ℕ) (x rest : List ℕ) → drop i s ≡ x ++ rest → drop (i + length x) s ≡ rest
@@ -40,25 +38,25 @@ module _ (s : List ℕ) (at : ℕ) (fs rest : List ℕ) (here : drop at s ≡ fs
   unfolding flags_at
   taken = ap (λ (bs : List ℕ). flags_taken (first_clash [] bs) bs at) flags-here
 
-  pub flags-read : Free fs → flags_at s at ≡ F.Read (flags_of fs) (at + length fs)
-  flags-read free = taken ∙ ap (λ (x : Option ℕ). flags_taken x fs at) (free-flags fs free)
+  pub flags-read : Free fs → flags_at s at ≡ Ok (flags_of fs, at + length fs)
+  flags-read free = taken ∙ ap (λ (x : Option Refusal). flags_taken x fs at) (free-flags fs free)
 
-  pub flags-refused : (f : List ℕ) (b : ℕ) (g : List ℕ) (n : ℕ) → fs ≡ f ++ (b ∷ g) → Free f → Clash f b n → flags_at s at ≡ F.Refused n
+  pub flags-refused : (f : List ℕ) (b : ℕ) (g : List ℕ) (n : Refusal) → fs ≡ f ++ (b ∷ g) → Free f → Clash f b n → flags_at s at ≡ Err n
   flags-refused f b g n split free c =
-      taken ∙ ap (λ (x : Option ℕ). flags_taken x fs at) (ap (first_clash []) split ∙ clash-flags f b g n free c)
+      taken ∙ ap (λ (x : Option Refusal). flags_taken x fs at) (ap (first_clash []) split ∙ clash-flags f b g n free c)
 
 -- a number: digits at a place that begin a parameter wherever they are digits
 module _ (s : List ℕ) (at : ℕ) (ds rest : List ℕ) (here : drop at s ≡ ds ++ rest) (run : Run is_digit ds rest) where
   pub digits-here : leading_digits (drop at s) ≡ digits_of ds
   digits-here = digits-leading (drop at s) ∙ ap (λ (l : List ℕ). digits_of (leading is_digit l)) here ∙ ap digits_of (leading-is is_digit run)
 
-  pub number_read : number_in ds ≤ largest_number → number_at s at ≡ N.Value (number_in ds) (at + length ds)
+  pub number_read : number_in ds ≤ largest_number → number_at s at ≡ Ok (number_in ds, at + length ds)
   unfolding number_at number_taken
   number_read h =
       ap (number_taken at) digits-here
-      ∙ simp (le-leb (number_in ds) largest_number h) (ap (λ (n : ℕ). N.Value (number_in ds) (at + n)) (digits-length ds))
+      ∙ simp (le-leb (number_in ds) largest_number h) (ap (λ (n : ℕ). Ok (number_in ds, at + n)) (digits-length ds))
 
-  pub number_large : largest_number < number_in ds → number_at s at ≡ N.TooLarge
+  pub number_large : largest_number < number_in ds → number_at s at ≡ Err LargeNumber
   unfolding number_at number_taken
   number_large h = ap (number_taken at) digits-here ∙ simp (lt-leb (number_in ds) largest_number h)
 
@@ -68,17 +66,17 @@ begins_as d ds rest a = (both (is_digit d) (all is_digit ds) a).0
 
 module _ (zero : Bool) (s : List ℕ) (at : ℕ) (as-digit : is_param zero (drop at s) ≡ begins is_digit (drop at s)) where
   pub param_read_lem : (ds rest : List ℕ) → drop at s ≡ ds ++ rest → Run is_digit ds rest → number_in ds ≤ largest_number
-      → param_at zero s at ≡ Param (param_read ds) (at + length ds)
+      → param_at zero s at ≡ Ok (param_read ds, at + length ds)
   unfolding param_at
   param_read_lem [] rest here run h =
       let none = as-digit ∙ ap (begins is_digit) here ∙ run.longest in
       let z : at ≡ at + 0 = omega arith in
-      simp none (ap (Param FromArgument) z)
+      simp none (ap (λ (i : ℕ). Ok (None, i)) z)
   param_read_lem (d ∷ ds) rest here run h =
       let some = as-digit ∙ ap (begins is_digit) here ∙ begins_as d ds rest run.each in
       simp some (ap param_of (number_read s at (d ∷ ds) rest here run h))
 
-  pub param_large : (ds rest : List ℕ) → drop at s ≡ ds ++ rest → Run is_digit ds rest → largest_number < number_in ds → param_at zero s at ≡ TooLarge
+  pub param_large : (ds rest : List ℕ) → drop at s ≡ ds ++ rest → Run is_digit ds rest → largest_number < number_in ds → param_at zero s at ≡ Err LargeNumber
   unfolding param_at number_of number_from
   param_large [] rest here run h = absurd (omega arith)
   param_large (d ∷ ds) rest here run h =

@@ -1,16 +1,18 @@
 -- Reading a format ends where its bytes say, and the pieces that it lists are the parts that stand there. Assumes nothing but that the kinds are known.
+use Rattle.std.specs.Prelude.{Err, Ok}
 use mathlib.Core.Path.{◌≡◌, refl, sym, ap, subst, ◌∙◌}
 use mathlib.Core.Bool.{true}
 use mathlib.Core.List.{List, [], ◌∷◌, ◌++◌, append_assoc, append-nil}
 use Prim.Native.Nat.{ℕ, zero, suc, ◌+◌, ◌-◌, ◌≤◌, ◌<◌}
 use native.Mathlib.Omega.{arith}
 use lib.ListN.{length, drop, length-append, length-drop}
+use Rattle.refusals.proofs.Parsed.{same_stop}
 use Rattle.refusals.specs.Limits.{most_pieces}
 use Rattle.writing.specs.Text.{ascii, has}
 use Rattle.parsing.specs.Pieces.{start, piece_at}
-use Rattle.parsing.specs.Listed.{Placed, placed_from, end_from, placed, ended}
+use Rattle.refusals.specs.declared.Refusal.TheVariants.{ManyPieces}
+use Rattle.parsing.specs.Listed.{Placed, Ended, placed_from, end_from, placed, ended}
 use Rattle.parsing.specs.declared.Cursor.{Cursor}
-use Rattle.parsing.specs.declared.Ended.TheVariants.{Finished, Stopped}
 use Rattle.parsing.proofs.Iteration.{placed_found, placed_past, end_found, end_refused, end-many, end_past}
 use Rattle.grammar.specs.Runs.{begins}
 use Rattle.grammar.specs.Parts.{Written, Part, part_bytes, bytes_before, counted_in, last_named}
@@ -26,6 +28,8 @@ use Rattle.grammar.proofs.Letters.{never}
 use Rattle.grammar.proofs.Steps.{KindsKnown, fault_step}
 use Rattle.grammar.proofs.Found.{Finds, stands_bytes, stands_finds}
 use Rattle.grammar.proofs.Total.{Verdict, stands, faulty, verdict}
+use Rattle.refusals.specs.Numbers.{stop}
+use Rattle.refusals.specs.declared.Refusal.{Refusal}
 
 -- a part has bytes
 some_bytes : {ks : List ℕ} {before : List Part} {r : List ℕ} {p : Part} {rest : List ℕ} → Stands ks before r p rest → 1 ≤ length (part_bytes p)
@@ -43,7 +47,7 @@ begun-percent : {before : List Part} {r : List ℕ} {w : Written} {rest : List �
 unfolding has
 begun-percent b = ap (begins (has (ascii "%"))) b.bytes
 
-fault-percent : {ks : List ℕ} {before : List Part} {r : List ℕ} {number : ℕ} → Fault ks before r number → begins (has (ascii "%")) r ≡ true
+fault-percent : {ks : List ℕ} {before : List Part} {r : List ℕ} {refusal : Refusal} → Fault ks before r refusal → begins (has (ascii "%")) r ≡ true
 unfolding has
 fault-percent (K.no_element rest e z) = ap (begins (has (ascii "%"))) e
 fault-percent (K.no_index rest e) = ap (begins (has (ascii "%"))) e
@@ -56,7 +60,7 @@ fault-percent (K.no_letter x n) = begun-percent x.wide.flagged.named.begun
 fault-percent (K.no_time_letter x i n) = begun-percent x.wide.flagged.named.begun
 fault-percent (K.no_fit x n) = begun-percent x.precise.wide.flagged.named.begun
 
-fault_byte : {ks : List ℕ} {before : List Part} {r : List ℕ} {number : ℕ} → Fault ks before r number → 1 ≤ length r
+fault_byte : {ks : List ℕ} {before : List Part} {r : List ℕ} {refusal : Refusal} → Fault ks before r refusal → 1 ≤ length r
 fault_byte {r = r} x = go r (fault-percent x)
   where
     go : (r : List ℕ) → begins (has (ascii "%")) r ≡ true → 1 ≤ length r
@@ -149,25 +153,25 @@ module _ (s ks : List ℕ) (known : KindsKnown ks) where
   came (E.one w x) h = came_next (omega arith) (came w (omega arith)) x
 
   -- Where a cause stands, reading is stopped by it.
-  pub stopped_by : {n p : ℕ} → StopsReading s ks n p → ended s ks ≡ Stopped n p
+  pub stopped_by : {n : Refusal} {p : ℕ} → StopsReading s ks n p → ended s ks ≡ Err (stop n p)
   stopped_by (many {before} {b} {rest} w full) =
       let k = came w (omega arith) in
       let z : most_pieces - length before ≡ 0 = omega arith in
       let inside = byte_left k (omega arith) in
       k.end ∙ ap (λ (n : ℕ). end_from n (piece_at s ks) (length s) k.c) z ∙ end-many (piece_at s ks) (length s) k.c inside
-      ∙ ap (Stopped 13) k.at.place
-  stopped_by (fault {before} {r} {number} w few x) =
+      ∙ ap (λ (p : ℕ). Err (stop ManyPieces p)) k.at.place
+  stopped_by (fault {before} {r} {refusal} w few x) =
       let k = came w (omega arith) in
       let m = most_pieces - suc (length before) in
       let z : most_pieces - length before ≡ suc m = omega arith in
       let inside = byte_left k (fault_byte x) in
       k.end ∙ ap (λ (n : ℕ). end_from n (piece_at s ks) (length s) k.c) z
-      ∙ end_refused (piece_at s ks) (length s) k.c inside m number (fault_step s ks k.c before k.at known r k.here number x)
-      ∙ ap (Stopped number) k.at.place
+      ∙ end_refused (piece_at s ks) (length s) k.c inside m refusal (fault_step s ks k.c before k.at known r k.here refusal x)
+      ∙ ap (λ (p : ℕ). Err (stop refusal p)) k.at.place
 
   -- A format made of parts is read to its end, and its pieces are these.
   pub record Read (parts : List Part) : Type 0 where
-    pub finished : ended s ks ≡ Finished
+    pub finished : ended s ks ≡ Ok tt
     pub lists : Lists ks (placed s ks) parts
 
   pub read_whole : {parts : List Part} → Whole s ks parts → Read parts
@@ -185,7 +189,7 @@ module _ (s ks : List ℕ) (known : KindsKnown ks) where
 -- Every format is made of parts, or stopped.
 pub data Ends (s ks : List ℕ) : Type 0 where
   made : {parts : List Part} → Whole s ks parts → Ends s ks
-  stops : {n p : ℕ} → StopsReading s ks n p → Ends s ks
+  stops : {n : Refusal} {p : ℕ} → StopsReading s ks n p → Ends s ks
 
 module _ (s ks : List ℕ) where
   ends_from_lem : (n : ℕ) (before : List Part) (r : List ℕ) → n + length before ≡ most_pieces → Reads s ks before r → Ends s ks
@@ -209,30 +213,29 @@ module _ (s ks : List ℕ) where
 
 -- So reading that is stopped has its cause, and a format that is read to its end is made of parts.
 module _ (s ks : List ℕ) (known : KindsKnown ks) where
-  pub cause_of : (n p : ℕ) → ended s ks ≡ Stopped n p → StopsReading s ks n p
+  pub cause_of : (n : Refusal) (p : ℕ) → ended s ks ≡ Err (stop n p) → StopsReading s ks n p
   cause_of n p e = go (ends s ks)
     where
       go : Ends s ks → StopsReading s ks n p
       go (made w) = absurd (finished_stopped (sym (read_whole s ks known w).finished ∙ e))
         where
-          finished_stopped : Finished ≡ Stopped n p → ⊥
+          finished_stopped : ◌≡◌ {A = Ended} (Ok tt) (Err (stop n p)) → ⊥
           finished_stopped q = let z : ◌≡◌ {A = ℕ} 0 1 = cc in omega arith
       go (stops {n = m} {p = q} x) =
           let f = sym (stopped_by s ks known x) ∙ e in
-          let number : m ≡ n = cc in
-          let place : q ≡ p = cc in
-          subst (StopsReading s ks n) place (subst (λ (k : ℕ). StopsReading s ks k q) number x)
+          let same = same_stop f in
+          subst (StopsReading s ks n) same.1 (subst (λ (k : Refusal). StopsReading s ks k q) same.0 x)
 
   pub record Made : Type 0 where
     pub parts : List Part
     pub whole : Whole s ks parts
 
-  pub parts_of : ended s ks ≡ Finished → Made
+  pub parts_of : ended s ks ≡ Ok tt → Made
   parts_of e = go (ends s ks)
     where
       go : Ends s ks → Made
       go (made {parts} w) = record { parts = parts; whole = w }
       go (stops {n = n} {p = p} x) = absurd (stopped_finished (sym (stopped_by s ks known x) ∙ e))
         where
-          stopped_finished : Stopped n p ≡ Finished → ⊥
+          stopped_finished : ◌≡◌ {A = Ended} (Err (stop n p)) (Ok tt) → ⊥
           stopped_finished q = let z : ◌≡◌ {A = ℕ} 0 1 = cc in omega arith

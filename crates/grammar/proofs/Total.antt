@@ -1,8 +1,8 @@
 -- Wherever bytes are left of a format, a part or a fault stands. Assumes nothing.
+use Rattle.std.specs.Prelude.{Option, None, Some}
 use mathlib.Core.Path.{◌≡◌, refl, sym, ap, subst, ◌∙◌}
 use mathlib.Core.Bool.{Bool, true, false, ◌||◌}
 use mathlib.Core.List.{List, [], ◌∷◌, ◌++◌, append_assoc}
-use mathlib.Core.Option.{Option, none, some}
 use Prim.Native.Nat.{ℕ, suc, ◌≤◌}
 use Prim.Native.Char.{code}
 use native.Mathlib.Decide.{dec_lt}
@@ -28,6 +28,7 @@ use Rattle.grammar.proofs.Clashes.{flags-free, flags-clash}
 use Rattle.grammar.proofs.Letters.{never}
 use Rattle.grammar.proofs.Places.{index_param, index_of_lem}
 use Rattle.grammar.proofs.Choices.{begins_cons, index-run}
+use Rattle.refusals.specs.declared.Refusal.{Refusal}
 
 -- none of two texts has a byte; a text that begins with a point
 pub has-none : (l m : List ℕ) (b : ℕ) → has l b ≡ false → has m b ≡ false → has (l ++ m) b ≡ false
@@ -50,7 +51,7 @@ point (x ∷ l) e = go (eqb (code ".") x) refl e
 
 pub data Verdict (ks : List ℕ) (before : List Part) (r : List ℕ) : Type 0 where
   stands : {p : Part} {rest : List ℕ} → Stands ks before r p rest → Verdict ks before r
-  faulty : {number : ℕ} → Fault ks before r number → Verdict ks before r
+  faulty : {refusal : Refusal} → Fault ks before r refusal → Verdict ks before r
 
 -- An element that names the argument a, before the bytes l.
 module _ (ks : List ℕ) (before : List Part) (r : List ℕ) (choice : Choice) (a : ℕ) (l : List ℕ) (names : Names before choice l a)
@@ -133,7 +134,7 @@ module _ (ks : List ℕ) (before : List Part) (r : List ℕ) (choice : Choice) (
             after_point : (m : List ℕ) → behind-width ≡ code "." ∷ m → Verdict ks before r
             after_point m q = elim (dec_lt largest_number (number_in ds)) [
               | yes n ↦ faulty (K.large_precision (pointed []) run n)
-              | no n ↦ by_letter (some ds) (drop (length ds) m) (λ x. record { wide = pointed x; run = given run (omega arith) })
+              | no n ↦ by_letter (Some ds) (drop (length ds) m) (λ x. record { wide = pointed x; run = given run (omega arith) })
             ]
               where
                 ds : List ℕ
@@ -142,30 +143,30 @@ module _ (ks : List ℕ) (before : List Part) (r : List ℕ) (choice : Choice) (
                 run : Run is_digit ds (drop (length ds) m)
                 run = leading-run is_digit m
 
-                pointed : (x : List ℕ) → Wide (length ks) before r (so (some ds) x) (code "." ∷ (ds ++ drop (length ds) m))
+                pointed : (x : List ℕ) → Wide (length ks) before r (so (Some ds) x) (code "." ∷ (ds ++ drop (length ds) m))
                 pointed x =
-                    subst (Wide (length ks) before r (so (some ds) x)) (q ∙ ap (λ (y : List ℕ). code "." ∷ y) (leading_split is_digit m)) (wide (some ds) x)
+                    subst (Wide (length ks) before r (so (Some ds) x)) (q ∙ ap (λ (y : List ℕ). code "." ∷ y) (leading_split is_digit m)) (wide (Some ds) x)
 
             go : (t : Bool) → begins (has (ascii ".")) behind-width ≡ t → Verdict ks before r
             go true t = after_point (drop 1 behind-width) (point behind-width t)
-            go false n = by_letter none behind-width (λ x. record { wide = wide none x; run = absent n })
+            go false n = by_letter None behind-width (λ x. record { wide = wide None x; run = absent n })
 
     -- by its flags, then by its width
     by_width : Free flags → Verdict ks before r
     by_width free = elim (dec_lt largest_number (number_in width)) [
-      | yes n ↦ faulty (K.large_width (flagged free none []) (leading-run is_digit behind-flags) n)
+      | yes n ↦ faulty (K.large_width (flagged free None []) (leading-run is_digit behind-flags) n)
       | no n ↦ by_precision free (omega arith) behind-width refl
     ]
 
-    by_flags : (t : Option ℕ) → first_clash [] flags ≡ t → Verdict ks before r
-    by_flags none e = by_width (flags-free flags e)
-    by_flags (some n) e =
+    by_flags : (t : Option Refusal) → first_clash [] flags ≡ t → Verdict ks before r
+    by_flags None e = by_width (flags-free flags e)
+    by_flags (Some n) e =
         let f = flags-clash flags n e in
-        faulty (K.clash f.g (named none []) (leading-run is_flag l) f.split f.free f.clash)
+        faulty (K.clash f.g (named None []) (leading-run is_flag l) f.split f.free f.clash)
 
   pub by_argument : Verdict ks before r
   by_argument = elim (dec_lt (length ks) a) [
-    | yes n ↦ faulty (K.above (begun none []) n)
+    | yes n ↦ faulty (K.above (begun None []) n)
     | no n ↦ by_flags (omega arith) (first_clash [] flags) refl
   ]
 
@@ -208,8 +209,8 @@ module _ (ks : List ℕ) (before : List Part) where
       go false u p q = counts (λ es rest i e. never (sym p ∙ (only es rest i e).0))
 
   by_last_or_none : (rest : List ℕ) (t : Option ℕ) → last_named before ≡ t → Verdict ks before (code "%" ∷ code "<" ∷ rest)
-  by_last_or_none rest none e = faulty (K.no_element rest refl e)
-  by_last_or_none rest (some a) e = by_argument ks before (code "%" ∷ code "<" ∷ rest) same a rest (by_last e) refl
+  by_last_or_none rest None e = faulty (K.no_element rest refl e)
+  by_last_or_none rest (Some a) e = by_argument ks before (code "%" ∷ code "<" ∷ rest) same a rest (by_last e) refl
 
   behind-percent : (l : List ℕ) → Verdict ks before (code "%" ∷ l)
   unfolding has

@@ -1,7 +1,6 @@
 -- What it is to stand in a format, part by part, each run as long as it can be. 01, "A format checked". For laws alone.
-use Rattle.std.specs.Prelude.{ℕ, suc, ◌-◌, ◌≤◌, ◌≡◌, Bool, true, false, not, ◌&&◌, ◌||◌, List, [], ◌∷◌, ◌++◌, eqb, length, get_or}
+use Rattle.std.specs.Prelude.{ℕ, suc, ◌-◌, ◌≤◌, ◌≡◌, Bool, true, false, not, ◌&&◌, ◌||◌, List, [], ◌∷◌, ◌++◌, eqb, length, get_or, Option, None, Some}
 use Prim.Native.Char.{code}
-use Rattle.std.proofs.Math.Option.{Option, none, some}
 use Rattle.refusals.specs.Limits.{largest_number}
 use Rattle.writing.specs.Text.{ascii, has}
 use Rattle.kinds.specs.Kinds.{unmarked}
@@ -9,6 +8,8 @@ use Rattle.specifiers.specs.Params.{is_digit}
 use Rattle.grammar.specs.Runs.{begins, all, Run, number_in}
 use Rattle.grammar.specs.Parts.{Choice, same, index, counted, choice_bytes, Written, precision_bytes}
 use Rattle.grammar.specs.Parts.{Part, text, percent, newline, element, counted_in, last_named}
+use Rattle.refusals.specs.declared.Refusal.{Refusal}
+use Rattle.refusals.specs.declared.Refusal.TheVariants.{PlusAndSpace, ZeroAfterMinus}
 
 -- "Digits from 1 to 9 onward"
 pub record IsIndex (ds : List ℕ) : Type 0 where
@@ -24,7 +25,7 @@ pub record NoChoice (rest : List ℕ) : Type 0 where
 -- How an element behind the parts `before` names the argument a, if the bytes `rest` follow. "`%<` takes the argument of the last element read without
 -- `<`"; "Digits .. and then `$` name the argument. Otherwise a running count rises by one and names it".
 pub data Names (before : List Part) : Choice → List ℕ → ℕ → Type 0 where
-  by_last : {a : ℕ} {rest : List ℕ} → last_named before ≡ some a → Names before same rest a
+  by_last : {a : ℕ} {rest : List ℕ} → last_named before ≡ Some a → Names before same rest a
   by_index : {ds rest : List ℕ} → IsIndex ds → number_in ds ≤ largest_number → Names before (index ds) rest (number_in ds)
   by_count : {rest : List ℕ} → NoChoice rest → Names before counted rest (suc (counted_in before))
 
@@ -43,14 +44,14 @@ abbrev pub is_flag : ℕ → Bool
 is_flag b = has (ascii "#0- +,(") b
 
 -- A flag that offends against one before it: 8 "`0` after `-`", 9 "both `+` and space".
-pub data Clash (before : List ℕ) (b : ℕ) : ℕ → Type 0 where
-  zero_after_minus : b ≡ code "0" → has before (code "-") ≡ true → Clash before b 8
-  plus_after_space : b ≡ code "+" → has before (code " ") ≡ true → Clash before b 9
-  space_after_plus : b ≡ code " " → has before (code "+") ≡ true → Clash before b 9
+pub data Clash (before : List ℕ) (b : ℕ) : Refusal → Type 0 where
+  zero_after_minus : b ≡ code "0" → has before (code "-") ≡ true → Clash before b ZeroAfterMinus
+  plus_after_space : b ≡ code "+" → has before (code " ") ≡ true → Clash before b PlusAndSpace
+  space_after_plus : b ≡ code " " → has before (code "+") ≡ true → Clash before b PlusAndSpace
 
 -- No flag offends.
 abbrev pub Free : List ℕ → Type 0
-Free flags = (before : List ℕ) (b : ℕ) (after : List ℕ) (number : ℕ) → flags ≡ before ++ (b ∷ after) → Clash before b number → ⊥
+Free flags = (before : List ℕ) (b : ℕ) (after : List ℕ) (refusal : Refusal) → flags ≡ before ++ (b ∷ after) → Clash before b refusal → ⊥
 
 -- Behind its flags.
 pub record Flagged (n : ℕ) (before : List Part) (r : List ℕ) (w : Written) (rest : List ℕ) : Type 0 where
@@ -66,8 +67,8 @@ pub record Wide (n : ℕ) (before : List Part) (r : List ℕ) (w : Written) (res
 
 -- Behind its precision: "Then `.` with digits or with none".
 pub data PrecisionRun : Option (List ℕ) → List ℕ → Type 0 where
-  absent : {rest : List ℕ} → begins (has (ascii ".")) rest ≡ false → PrecisionRun none rest
-  given : {ds rest : List ℕ} → Run is_digit ds rest → number_in ds ≤ largest_number → PrecisionRun (some ds) rest
+  absent : {rest : List ℕ} → begins (has (ascii ".")) rest ≡ false → PrecisionRun None rest
+  given : {ds rest : List ℕ} → Run is_digit ds rest → number_in ds ≤ largest_number → PrecisionRun (Some ds) rest
 
 pub record Precise (n : ℕ) (before : List Part) (r : List ℕ) (w : Written) (rest : List ℕ) : Type 0 where
   pub wide : Wide n before r w (precision_bytes w.precision ++ rest)

@@ -1,7 +1,6 @@
 -- The parts that a format is made of, as they are written. For laws alone.
-use Rattle.std.specs.Prelude.{ℕ, suc, max, List, [], ◌∷◌, ◌++◌}
+use Rattle.std.specs.Prelude.{ℕ, suc, max, List, [], ◌∷◌, ◌++◌, Option, None, Some}
 use Prim.Native.Char.{code}
-use Rattle.std.proofs.Math.Option.{Option, none, some}
 use Rattle.writing.specs.Text.{ascii}
 
 -- How an element names its argument: by `<`, by an index before `$`, or by the running count.
@@ -26,8 +25,8 @@ pub record Written : Type 0 where
   pub letter : List ℕ
 
 abbrev pub precision_bytes : Option (List ℕ) → List ℕ
-precision_bytes none = []
-precision_bytes (some ds) = code "." ∷ ds
+precision_bytes None = []
+precision_bytes (Some ds) = code "." ∷ ds
 
 -- Java, "Format String Syntax": `%`, then the index, flags, width, precision and conversion.
 abbrev pub element_bytes : Written → List ℕ
@@ -70,8 +69,8 @@ counted_in (p ∷ before) = counted_with p (counted_in before)
 -- "the argument of the last element read without `<`", if there is one,
 abbrev pub named_by : Choice → ℕ → Option ℕ → Option ℕ
 named_by same a others = others
-named_by (index ds) a others = some a
-named_by counted a others = some a
+named_by (index ds) a others = Some a
+named_by counted a others = Some a
 
 abbrev pub named_with : Part → Option ℕ → Option ℕ
 named_with (text t) others = others
@@ -80,7 +79,7 @@ named_with newline others = others
 named_with (element w) others = named_by w.choice w.argument others
 
 unfoldable pub last_named : List Part → Option ℕ
-last_named [] = none
+last_named [] = None
 last_named (p ∷ before) = named_with p (last_named before)
 
 -- and "the largest argument index used, 0 if none".

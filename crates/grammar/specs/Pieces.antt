@@ -1,30 +1,26 @@
 -- What reading finds, in the bytes of a format: what a cursor's numbers mean, and what each piece is. For laws alone.
-use Rattle.std.specs.Prelude.{ℕ, ◌+◌, ◌≤◌, ◌≡◌, Bool, true, List, [], ◌∷◌, ◌++◌, length, drop}
+use Rattle.std.specs.Prelude.{ℕ, ◌+◌, ◌≤◌, ◌≡◌, Bool, true, List, [], ◌∷◌, ◌++◌, length, drop, None, Option, Some}
 use Prim.Native.Char.{code}
-use Rattle.std.proofs.Math.Option.{Option, none, some}
 use Rattle.writing.specs.Text.{ascii, has}
 use Rattle.numerals.specs.declared.Radix.TheVariants.{Decimal, Octal, Hexadecimal}
-use Rattle.numerals.specs.declared.NumericParam.{NumericParam}
 use Rattle.kinds.specs.declared.letters.TimeFormat.{TimeFormat}
 use Rattle.kinds.specs.declared.letters.TimeFormat.TheVariants as T
 use Rattle.kinds.specs.declared.letters.ConversionType.{ConversionType}
 use Rattle.kinds.specs.declared.letters.ConversionType.TheVariants as C
-use Rattle.numerals.specs.declared.NumericParam.TheVariants.{Literal, FromArgument}
 use Rattle.specifiers.specs.declared.Element.{Element}
 use Rattle.parsing.specs.Listed.{Placed}
 use Rattle.parsing.specs.declared.Cursor.{Cursor}
 use Rattle.parsing.specs.declared.Piece.{Piece}
 use Rattle.parsing.specs.declared.Piece.TheVariants.{Fixed, Byte, Element as AnElement}
-use Rattle.kinds.specs.Kinds.{kind_of, fit_of}
-use Rattle.kinds.specs.declared.Fit.TheVariants.{Fits}
+use Rattle.kinds.specs.Kinds.{kind_of, fit_in}
 use Rattle.grammar.specs.Runs.{begins, number_in}
 use Rattle.grammar.specs.Elements.{IsLetter, kind_at}
 use Rattle.grammar.specs.Parts.{Written, Part, text, percent, newline, element, bytes_before, counted_in, last_named}
 
 -- The argument that `%<` takes, as a cursor has it: 0 for none.
 abbrev pub IsLast : Option ℕ → ℕ → Type 0
-IsLast none n = n ≡ 0
-IsLast (some a) n = (n ≡ a) × (1 ≤ a)
+IsLast None n = n ≡ 0
+IsLast (Some a) n = (n ≡ a) × (1 ≤ a)
 
 -- A cursor behind the parts `before`: how many bytes and how many counted elements these are, and that argument.
 pub record At (before : List Part) (c : Cursor) : Type 0 where
@@ -33,13 +29,13 @@ pub record At (before : List Part) (c : Cursor) : Type 0 where
   pub last : IsLast (last_named before) c.last
 
 -- A width, and a precision, by their digits; without digits there is none.
-abbrev pub param_read : List ℕ → NumericParam
-param_read [] = FromArgument
-param_read (d ∷ ds) = Literal (number_in (d ∷ ds))
+abbrev pub param_read : List ℕ → Option ℕ
+param_read [] = None
+param_read (d ∷ ds) = Some (number_in (d ∷ ds))
 
-abbrev pub precision_read : Option (List ℕ) → NumericParam
-precision_read none = FromArgument
-precision_read (some ds) = param_read ds
+abbrev pub precision_read : Option (List ℕ) → Option ℕ
+precision_read None = None
+precision_read (Some ds) = param_read ds
 
 -- The letters of each conversion, and the capitals among them.
 abbrev pub letters_of : ConversionType → List ℕ
@@ -120,7 +116,7 @@ pub record ElementIs (ks : List ℕ) (e : Element) (w : Written) : Type 0 where
   pub component : names_component e.conversion (drop 1 w.letter) ≡ true
   pub upper : e.upper ≡ begins (has capitals) w.letter
   pub letter : IsLetter w.letter
-  pub form : fit_of e.conversion (kind_of (kind_at ks w.argument)) ≡ Fits e.form
+  pub form : fit_in e.conversion (kind_of (kind_at ks w.argument)) ≡ Some e.form
 
 -- A piece that begins at the place `at`: text, the second `%` of `%%`, byte 10 for `%n`, or an element.
 pub data PieceIs (ks : List ℕ) (at : ℕ) : Piece → Part → Type 0 where

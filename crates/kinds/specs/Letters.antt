@@ -1,5 +1,5 @@
 -- The letters of a format. 01: "Letter: b B h H s S c C d o x X e E f g G a A, or t or T and one of the 30 letters of `TimeFormat`, with `h` read as `b`."
-use Rattle.std.specs.Prelude.{ℕ, List, [], ◌∷◌, eqb}
+use Rattle.std.specs.Prelude.{ℕ, List, [], ◌∷◌, eqb, None, Option, Some}
 use Prim.Native.Char.{Char, code}
 use Rattle.writing.specs.Choose.{choose}
 use Rattle.kinds.specs.declared.letters.TimeFormat.{TimeFormat}
@@ -7,10 +7,6 @@ use Rattle.kinds.specs.declared.letters.TimeFormat.TheVariants as T
 use Rattle.kinds.specs.declared.letters.ConversionType.{ConversionType}
 use Rattle.kinds.specs.declared.letters.ConversionType.TheVariants as C
 use Rattle.numerals.specs.declared.Radix.TheVariants.{Decimal, Octal, Hexadecimal}
-use Rattle.kinds.specs.declared.letters.TimeLetter.{TimeLetter}
-use Rattle.kinds.specs.declared.letters.TimeLetter.TheVariants.{Component, NoComponent}
-use Rattle.kinds.specs.declared.letters.Letter.{Letter}
-use Rattle.kinds.specs.declared.letters.Letter.TheVariants.{Conversion, NoConversion}
 
 -- A table of names by number or letter: what stands in the row whose key is b, or `others` where no row has it.
 abbrev pub lookup : {K A B : Type 0} → (K → ℕ) → (A → B) → B → List (K × A) → ℕ → B
@@ -25,8 +21,8 @@ time_letters =
     ("A", T.AUpper) ∷ ("a", T.ALower) ∷ ("C", T.CUpper) ∷ ("Y", T.YUpper) ∷ ("y", T.YLower) ∷ ("j", T.JLower) ∷ ("m", T.MLower) ∷ ("d", T.DLower) ∷
     ("e", T.ELower) ∷ ("R", T.RUpper) ∷ ("T", T.TUpper) ∷ ("r", T.RLower) ∷ ("D", T.DUpper) ∷ ("F", T.FUpper) ∷ ("c", T.CLower) ∷ []
 
-unfoldable pub time_of : ℕ → TimeLetter
-time_of b = lookup code Component NoComponent time_letters b
+unfoldable pub time_of : ℕ → Option TimeFormat
+time_of b = lookup code Some None time_letters b
 
 -- Java, "Conversions": the letters but for t and T. e, f and g, which are not printed, are one conversion.
 abbrev pub small_letters : List (Char × ConversionType)
@@ -40,8 +36,8 @@ capital_letters =
     ("B", C.Boolean) ∷ ("H", C.HexHash) ∷ ("S", C.String) ∷ ("C", C.Char) ∷ ("X", C.Integer Hexadecimal) ∷ ("E", C.DecimalFloat) ∷
     ("G", C.DecimalFloat) ∷ ("A", C.HexFloat) ∷ []
 
-unfoldable pub small_of : ℕ → Letter
-small_of b = lookup code Conversion NoConversion small_letters b
+unfoldable pub small_of : ℕ → Option ConversionType
+small_of b = lookup code Some None small_letters b
 
-unfoldable pub capital_of : ℕ → Letter
-capital_of b = lookup code Conversion NoConversion capital_letters b
+unfoldable pub capital_of : ℕ → Option ConversionType
+capital_of b = lookup code Some None capital_letters b

@@ -7,7 +7,7 @@ ghost use Rattle.kinds.specs.Letters.{time_of, small_of, capital_of};
 use numerals::Radix;
 
 // The component of a date that a letter behind t or T names.
-#[derive(Clone, Copy)]
+#[derive(Clone, Copy, PartialEq, Eq)]
 pub enum TimeFormat {
     HUpper,
     IUpper,
@@ -42,7 +42,7 @@ pub enum TimeFormat {
 }
 
 // What a letter prints; its capital prints the same in capitals. The original has a variant for each letter.
-#[derive(Clone, Copy)]
+#[derive(Clone, Copy, PartialEq, Eq)]
 pub enum ConversionType {
     Boolean,
     HexHash,
@@ -54,91 +54,78 @@ pub enum ConversionType {
     Time(TimeFormat),
 }
 
-#[derive(Clone, Copy)]
-pub enum TimeLetter {
-    Component(TimeFormat),
-    NoComponent,
-}
-
-#[derive(Clone, Copy)]
-pub enum Letter {
-    Conversion(ConversionType),
-    NoConversion,
-}
-
 // The component that a byte names.
-pub fn time_of(b: u8) -> TimeLetter
+#[tactic(auto, unfolding(crate::specs::Letters::time_of))]
+pub fn time_of(b: u8) -> Option<TimeFormat>
     ensures { result ≡ time_of b }
 {
     match b {
-        b'H' => TimeLetter::Component(TimeFormat::HUpper),
-        b'I' => TimeLetter::Component(TimeFormat::IUpper),
-        b'k' => TimeLetter::Component(TimeFormat::KLower),
-        b'l' => TimeLetter::Component(TimeFormat::LLower),
-        b'M' => TimeLetter::Component(TimeFormat::MUpper),
-        b'S' => TimeLetter::Component(TimeFormat::SUpper),
-        b'L' => TimeLetter::Component(TimeFormat::LUpper),
-        b'N' => TimeLetter::Component(TimeFormat::NUpper),
-        b'p' => TimeLetter::Component(TimeFormat::PLower),
-        b'z' => TimeLetter::Component(TimeFormat::ZLower),
-        b'Z' => TimeLetter::Component(TimeFormat::ZUpper),
-        b's' => TimeLetter::Component(TimeFormat::SLower),
-        b'Q' => TimeLetter::Component(TimeFormat::QUpper),
-        b'B' => TimeLetter::Component(TimeFormat::BUpper),
-        b'b' => TimeLetter::Component(TimeFormat::BLower),
-        b'h' => TimeLetter::Component(TimeFormat::BLower),
-        b'A' => TimeLetter::Component(TimeFormat::AUpper),
-        b'a' => TimeLetter::Component(TimeFormat::ALower),
-        b'C' => TimeLetter::Component(TimeFormat::CUpper),
-        b'Y' => TimeLetter::Component(TimeFormat::YUpper),
-        b'y' => TimeLetter::Component(TimeFormat::YLower),
-        b'j' => TimeLetter::Component(TimeFormat::JLower),
-        b'm' => TimeLetter::Component(TimeFormat::MLower),
-        b'd' => TimeLetter::Component(TimeFormat::DLower),
-        b'e' => TimeLetter::Component(TimeFormat::ELower),
-        b'R' => TimeLetter::Component(TimeFormat::RUpper),
-        b'T' => TimeLetter::Component(TimeFormat::TUpper),
-        b'r' => TimeLetter::Component(TimeFormat::RLower),
-        b'D' => TimeLetter::Component(TimeFormat::DUpper),
-        b'F' => TimeLetter::Component(TimeFormat::FUpper),
-        b'c' => TimeLetter::Component(TimeFormat::CLower),
-        _ => TimeLetter::NoComponent,
+        b'H' => Some(TimeFormat::HUpper),
+        b'I' => Some(TimeFormat::IUpper),
+        b'k' => Some(TimeFormat::KLower),
+        b'l' => Some(TimeFormat::LLower),
+        b'M' => Some(TimeFormat::MUpper),
+        b'S' => Some(TimeFormat::SUpper),
+        b'L' => Some(TimeFormat::LUpper),
+        b'N' => Some(TimeFormat::NUpper),
+        b'p' => Some(TimeFormat::PLower),
+        b'z' => Some(TimeFormat::ZLower),
+        b'Z' => Some(TimeFormat::ZUpper),
+        b's' => Some(TimeFormat::SLower),
+        b'Q' => Some(TimeFormat::QUpper),
+        b'B' => Some(TimeFormat::BUpper),
+        b'b' | b'h' => Some(TimeFormat::BLower),
+        b'A' => Some(TimeFormat::AUpper),
+        b'a' => Some(TimeFormat::ALower),
+        b'C' => Some(TimeFormat::CUpper),
+        b'Y' => Some(TimeFormat::YUpper),
+        b'y' => Some(TimeFormat::YLower),
+        b'j' => Some(TimeFormat::JLower),
+        b'm' => Some(TimeFormat::MLower),
+        b'd' => Some(TimeFormat::DLower),
+        b'e' => Some(TimeFormat::ELower),
+        b'R' => Some(TimeFormat::RUpper),
+        b'T' => Some(TimeFormat::TUpper),
+        b'r' => Some(TimeFormat::RLower),
+        b'D' => Some(TimeFormat::DUpper),
+        b'F' => Some(TimeFormat::FUpper),
+        b'c' => Some(TimeFormat::CLower),
+        _ => None,
     }
 }
 
 // The conversion that a small letter names, but for t, which a second letter completes.
-pub fn small_letter(b: u8) -> Letter
+#[tactic(auto, unfolding(crate::specs::Letters::small_of))]
+pub fn small_letter(b: u8) -> Option<ConversionType>
     ensures { result ≡ small_of b }
 {
     match b {
-        b'b' => Letter::Conversion(ConversionType::Boolean),
-        b'h' => Letter::Conversion(ConversionType::HexHash),
-        b's' => Letter::Conversion(ConversionType::String),
-        b'c' => Letter::Conversion(ConversionType::Char),
-        b'd' => Letter::Conversion(ConversionType::Integer(Radix::Decimal)),
-        b'o' => Letter::Conversion(ConversionType::Integer(Radix::Octal)),
-        b'x' => Letter::Conversion(ConversionType::Integer(Radix::Hexadecimal)),
-        b'e' => Letter::Conversion(ConversionType::DecimalFloat),
-        b'f' => Letter::Conversion(ConversionType::DecimalFloat),
-        b'g' => Letter::Conversion(ConversionType::DecimalFloat),
-        b'a' => Letter::Conversion(ConversionType::HexFloat),
-        _ => Letter::NoConversion,
+        b'b' => Some(ConversionType::Boolean),
+        b'h' => Some(ConversionType::HexHash),
+        b's' => Some(ConversionType::String),
+        b'c' => Some(ConversionType::Char),
+        b'd' => Some(ConversionType::Integer(Radix::Decimal)),
+        b'o' => Some(ConversionType::Integer(Radix::Octal)),
+        b'x' => Some(ConversionType::Integer(Radix::Hexadecimal)),
+        b'e' | b'f' | b'g' => Some(ConversionType::DecimalFloat),
+        b'a' => Some(ConversionType::HexFloat),
+        _ => None,
     }
 }
 
 // The conversion that a capital names, but for T.
-pub fn capital_letter(b: u8) -> Letter
+#[tactic(auto, unfolding(crate::specs::Letters::capital_of))]
+pub fn capital_letter(b: u8) -> Option<ConversionType>
     ensures { result ≡ capital_of b }
 {
     match b {
-        b'B' => Letter::Conversion(ConversionType::Boolean),
-        b'H' => Letter::Conversion(ConversionType::HexHash),
-        b'S' => Letter::Conversion(ConversionType::String),
-        b'C' => Letter::Conversion(ConversionType::Char),
-        b'X' => Letter::Conversion(ConversionType::Integer(Radix::Hexadecimal)),
-        b'E' => Letter::Conversion(ConversionType::DecimalFloat),
-        b'G' => Letter::Conversion(ConversionType::DecimalFloat),
-        b'A' => Letter::Conversion(ConversionType::HexFloat),
-        _ => Letter::NoConversion,
+        b'B' => Some(ConversionType::Boolean),
+        b'H' => Some(ConversionType::HexHash),
+        b'S' => Some(ConversionType::String),
+        b'C' => Some(ConversionType::Char),
+        b'X' => Some(ConversionType::Integer(Radix::Hexadecimal)),
+        b'E' | b'G' => Some(ConversionType::DecimalFloat),
+        b'A' => Some(ConversionType::HexFloat),
+        _ => None,
     }
 }

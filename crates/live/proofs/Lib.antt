@@ -1,7 +1,3 @@
-mod Stores
-mod Columns
-mod Ins
-mod Outs
 mod Joining
 mod Leaving
 mod Ends

@@ -3,247 +3,201 @@
 // leave works out the largest again without a row.
 #![tactic(auto)]
 
-ghost use Rattle.std.specs.Prelude.{◌≡◌, ◌+◌, ◌<◌, ◌≤◌, min, max, length};
-ghost use Rattle.gates.specs.Gates.{joins, refused, if_measured};
-ghost use Rattle.live.specs.Lists.{count_of, Represents};
-ghost use Rattle.live.specs.Steps.{PlaceOf, length_in, Entered, TakenIn, column_largest, TakenOutAt, TakenOut};
+ghost use Rattle.std.specs.Prelude.{◌≡◌, ℕ, ◌<◌, min, max, slice_index};
+ghost use Rattle.gates.specs.Gates.{joins, changed_of};
+ghost use Rattle.live.specs.Lists.{Represents};
+ghost use Rattle.live.specs.Steps.{present, place_of, length_in, column_largest, lowered};
 ghost use Rattle.live.specs.Promises.{Emptied, Changes, Leaves, Lengths};
 
 use gates::Changed;
-use outcomes::Outcome;
+use refusals::{MOST_GATES, MOST_PIECES, Refusal, Stop};
 
-// The words of a list's memory: how many gates are present, 128 numbers, then 512 largest lengths from LONGEST on, and from LENGTHS on 512 lengths for
-// each of 128 gates.
-pub const WORDS: usize = 66177;
-
-const LONGEST: usize = 129;
-
-const LENGTHS: usize = 641;
-
-fn wide(x: u32) -> usize
-    ensures { result ≡ x }
-{
-    x as usize
+// How many gates are present, their numbers, the largest length of each piece, and the length of each gate's pieces.
+#[repr(C)]
+pub struct GateList {
+    count: u32,
+    numbers: [u32; MOST_GATES],
+    longest: [u32; MOST_PIECES],
+    lengths: [[u32; MOST_PIECES]; MOST_GATES],
 }
 
-// How many gates are present; of memory that no calls left, at most 128.
-fn count_of(list: &[u32]) -> usize
-    requires { length list.now ≡ 66177 }
-    ensures { result ≡ min (count_of list.now) 128 }
-{
-    let count = wide(list[0]);
-    if count < refusals::MOST_GATES {
-        count
-    } else {
-        refusals::MOST_GATES
-    }
-}
-
-// Where the gate stands.
-fn place_of(list: &[u32], count: usize, gate: u32) -> usize
-    requires { (length list.now ≡ 66177) × (count ≤ 128) }
-    ensures { PlaceOf list.now count gate result }
-{
-    let mut i = 0;
-    while i < count {
-        if list[1 + i] == gate {
-            return i;
-        }
-        i = i + 1;
-    }
-    i
-}
-
-// Empties the list: it costs the clearing of the largest lengths. What other words hold does not matter.
-pub fn empty(list: &mut [u32])
-    requires { length list.old ≡ 66177 }
-    ensures { Emptied Represents list.new }
-{
-    list[0] = 0;
-    let mut k = 0;
-    while k < refusals::MOST_PIECES {
-        list[LONGEST + k] = 0;
-        k = k + 1;
-    }
-}
+// panel.h lends as many words.
+const _: () = prove!(size_of::<GateList>() == 4 * 66177);
 
 // The length of a piece, of which end and end before are known in 32 bits.
-fn piece_len(ends: &[u32], pieces: usize, k: usize) -> u32
-    requires { (length ends.now ≡ 512) × (k < 512) }
+fn piece_len(ends: &[u32; MOST_PIECES], pieces: usize, k: usize) -> u32
+    requires { k < MOST_PIECES }
     ensures { result ≡ length_in ends.now pieces k }
 {
-    if pieces <= k {
-        return 0;
+    if k >= pieces {
+        0
+    } else if k == 0 {
+        ends[k]
+    } else {
+        ends[k].wrapping_sub(ends[k - 1])
     }
-    if k == 0 {
-        return ends[k];
-    }
-    std::num::wrapping_sub_u32(ends[k], ends[k - 1])
 }
 
-fn larger(a: u32, b: u32) -> u32
-    ensures { result ≡ max a b }
+// Writes the lengths of a gate's pieces, and raises each largest length to them.
+fn enter_lengths(
+    longest: &mut [u32; MOST_PIECES],
+    own: &mut [u32; MOST_PIECES],
+    ends: &[u32; MOST_PIECES],
+    pieces: usize,
+)
+    ensures written { (k : ℕ) → k < MOST_PIECES → slice_index own.new k ≡ length_in ends.now pieces k }
+    ensures raised { (k : ℕ) → k < MOST_PIECES → slice_index longest.new k ≡ max (slice_index longest.old k) (length_in ends.now pieces k) }
 {
-    if a < b { b } else { a }
-}
-
-// Writes the lengths of a gate's pieces from the word at on, and raises each largest length to them.
-fn enter_lengths(list: &mut [u32], at: usize, ends: &[u32], pieces: usize)
-    requires { (length list.old ≡ 66177) × (length ends.now ≡ 512) × (641 ≤ at) × (at + 512 ≤ 66177) }
-    ensures { Entered at 512 (length_in ends.now pieces) list.old list.new }
-{
-    let mut k = 0;
-    while k < refusals::MOST_PIECES {
+    for k in 0..MOST_PIECES {
         let len = piece_len(ends, pieces, k);
-        list[at + k] = len;
-        list[LONGEST + k] = larger(list[LONGEST + k], len);
-        k = k + 1;
+        own[k] = len;
+        longest[k] = longest[k].max(len);
     }
 }
 
-// Takes a gate in behind the others.
-fn take_in(list: &mut [u32], count: usize, gate: u32, ends: &[u32], pieces: usize)
-    requires { (length list.old ≡ 66177) × (length ends.now ≡ 512) × (count < 128) }
-    ensures { TakenIn list.old count gate ends.now pieces list.new }
-{
-    let at = LENGTHS + refusals::MOST_PIECES * count;
-    enter_lengths(list, at, ends, pieces);
-    list[1 + count] = gate;
-    list[0] = (count + 1) as u32;
-}
-
-// A refusal of the list's own.
-fn refusal(number: u8) -> Changed
-    ensures { result ≡ refused number 0 }
-{
-    Changed {
-        number: number as u64,
-        place: 0,
-    }
-}
-
-// What is answered where measuring refuses.
-fn refused_by(found: Outcome) -> Changed
-    ensures { result ≡ if_measured found }
-{
-    match found {
-        Outcome::Accepted {
-            length: _,
-            pieces: _,
-        } => Changed {
-            number: 0,
-            place: 0,
-        },
-        Outcome::Refused { number, place } => Changed {
-            number: number as u64,
-            place: place as u64,
-        },
-    }
-}
-
-// A gate joins, with its row under the format of the list. Costs what measuring does, a pass over the numbers of the gates present, and one over 512
-// lengths.
-pub fn join<'a>(list: &mut [u32], gate: u32, fmt: &'a [u8], row: &'a [u8]) -> Changed
-    requires { length list.old ≡ 66177 }
-    ensures { Changes Represents fmt.now (joins gate row.now) list.old result list.new }
-{
-    let count = count_of(list);
-    if place_of(list, count, gate) < count {
-        return refusal(refusals::GATE_PRESENT);
-    }
-    if refusals::MOST_GATES <= count {
-        return refusal(refusals::LIST_FULL);
-    }
-    let mut text = [0u8; 1];
-    let mut ends = [0u32; 512];
-    let found = printing::stage(fmt, row, &mut text[..0], &mut ends);
-    let Outcome::Accepted { length: _, pieces } = found else {
-        return refused_by(found);
-    };
-    take_in(list, count, gate, &ends, pieces as usize);
-    Changed {
-        number: 0,
-        place: 0,
-    }
-}
-
-// The largest length of the k-th piece among the first n gates, but no more than top: none is looked at behind one that reaches it.
-fn column_largest(list: &[u32], n: usize, k: usize, top: u32) -> u32
-    requires { (length list.now ≡ 66177) × (n ≤ 128) × (k < 512) }
-    ensures { result ≡ min top (column_largest list.now n k) }
+// The largest k-th length of some gates, but no more than top: none is looked at behind one that reaches it.
+fn column_largest(rows: &[[u32; MOST_PIECES]], k: usize, top: u32) -> u32
+    requires { k < MOST_PIECES }
+    ensures { result ≡ min top (column_largest rows.now k) }
 {
     let mut most = 0;
-    let mut i = 0;
-    while i < n {
-        let len = list[LENGTHS + refusals::MOST_PIECES * i + k];
-        if top <= len {
+    for row in rows {
+        if row[k] >= top {
             return top;
         }
-        most = larger(most, len);
-        i = i + 1;
+        most = most.max(row[k]);
     }
     most
 }
 
-// Takes the k-th length of the gate at place out, and puts the last gate's there.
-fn take_out_at(list: &mut [u32], place: usize, last: usize, k: usize)
-    requires { (length list.old ≡ 66177) × (place ≤ last) × (last < 128) × (k < 512) }
-    ensures { TakenOutAt place last k list.old list.new }
+// Lowers the largest lengths where a gate leaves to those of the others.
+fn lower(longest: &mut [u32; MOST_PIECES], own: &[u32; MOST_PIECES], others: &[[u32; MOST_PIECES]])
+    ensures { (k : ℕ) → k < MOST_PIECES → slice_index longest.new k
+        ≡ lowered (slice_index own.now k) (slice_index longest.old k) (column_largest others.now k) }
 {
-    let at = LENGTHS + refusals::MOST_PIECES * place + k;
-    let from = LENGTHS + refusals::MOST_PIECES * last + k;
-    let own = list[at];
-    list[at] = list[from];
-    if own == 0 {
-        return;
-    }
-    if own < list[LONGEST + k] {
-        return;
-    }
-    list[LONGEST + k] = column_largest(list, last, k, own);
-}
-
-// The same of all its lengths.
-fn take_out(list: &mut [u32], place: usize, last: usize)
-    requires { (length list.old ≡ 66177) × (place ≤ last) × (last < 128) }
-    ensures { TakenOut 512 place last list.old list.new }
-{
-    let mut k = 0;
-    while k < refusals::MOST_PIECES {
-        take_out_at(list, place, last, k);
-        k = k + 1;
+    for k in 0..MOST_PIECES {
+        if own[k] > 0 && own[k] >= longest[k] {
+            longest[k] = column_largest(others, k, own[k]);
+        }
     }
 }
 
-// A gate leaves. Nothing is measured: it costs a pass over the numbers and one over its 512 lengths; and of each piece at which no gate is longer, one over
-// this piece's lengths up to the first as long, so in all at most one pass over the lengths of the gates present.
-pub fn leave(list: &mut [u32], gate: u32) -> Changed
-    requires { length list.old ≡ 66177 }
-    ensures { Leaves Represents gate list.old result list.new }
+// A call's answer, for C.
+fn changed_of(answer: Result<(), Stop>) -> Changed
+    ensures { result ≡ changed_of answer }
 {
-    let count = count_of(list);
-    let place = place_of(list, count, gate);
-    if count <= place {
-        return refusal(refusals::GATE_ABSENT);
-    }
-    let last = count - 1;
-    take_out(list, place, last);
-    list[1 + place] = list[1 + last];
-    list[0] = last as u32;
-    Changed {
-        number: 0,
-        place: 0,
+    match answer {
+        Ok(()) => Changed {
+            number: 0,
+            place: 0,
+        },
+        Err(stop) => Changed {
+            number: stop.refusal.number() as u64,
+            place: stop.place as u64,
+        },
     }
 }
 
-// The 512 lengths: a copy.
-pub fn lengths(list: &[u32], out: &mut [u64])
-    requires { (length list.now ≡ 66177) × (length out.old ≡ 512) }
-    ensures { Lengths Represents list.now out.new }
-{
-    let mut k = 0;
-    while k < refusals::MOST_PIECES {
-        out[k] = wide(list[LONGEST + k]) as u64;
-        k = k + 1;
+impl GateList {
+    // A list of no gates.
+    pub fn new() -> GateList
+        ensures { Emptied Represents result }
+    {
+        GateList {
+            count: 0,
+            numbers: [0; MOST_GATES],
+            longest: [0; MOST_PIECES],
+            lengths: [[0; MOST_PIECES]; MOST_GATES],
+        }
+    }
+
+    // How many gates are present; of memory that no calls left, at most 128.
+    fn present(&self) -> usize
+        ensures { result ≡ present self.now }
+    {
+        (self.count as usize).min(MOST_GATES)
+    }
+
+    // Where the gate stands.
+    fn place_of(&self, gate: u32) -> Option<usize>
+        ensures { result ≡ place_of self.now gate }
+    {
+        self.numbers[..self.present()]
+            .iter()
+            .position(|number| *number == gate)
+    }
+
+    // Empties the list: it costs the clearing of the largest lengths. What other words hold does not matter.
+    pub fn empty(&mut self)
+        ensures { Emptied Represents self.new }
+    {
+        self.count = 0;
+        self.longest.fill(0);
+    }
+
+    // A gate joins, or the list stays as it is and the answer is why.
+    fn try_join(&mut self, gate: u32, fmt: &[u8], row: &[u8]) -> Result<(), Stop>
+        ensures { Changes Represents fmt.now (joins gate row.now) self.old (changed_of result) self.new }
+    {
+        if self.place_of(gate).is_some() {
+            return Err(Refusal::GatePresent.at(0));
+        }
+        let count = self.present();
+        if count >= MOST_GATES {
+            return Err(Refusal::ListFull.at(0));
+        }
+        let mut ends = [0u32; MOST_PIECES];
+        let found = printing::stage(fmt, row, &mut [], &mut ends)?;
+        enter_lengths(
+            &mut self.longest,
+            &mut self.lengths[count],
+            &ends,
+            found.pieces as usize,
+        );
+        self.numbers[count] = gate;
+        self.count = (count + 1) as u32;
+        Ok(())
+    }
+
+    // A gate joins, with its row under the format of the list. Costs what measuring does, a pass over the numbers of the gates present, and one over 512
+    // lengths.
+    pub fn join(&mut self, gate: u32, fmt: &[u8], row: &[u8]) -> Changed
+        ensures { Changes Represents fmt.now (joins gate row.now) self.old result self.new }
+    {
+        changed_of(self.try_join(gate, fmt, row))
+    }
+
+    // A gate leaves, or the list stays as it is and the answer is why.
+    fn try_leave(&mut self, gate: u32) -> Result<(), Stop>
+        ensures { Leaves Represents gate self.old (changed_of result) self.new }
+    {
+        let Some(place) = self.place_of(gate) else {
+            return Err(Refusal::GateAbsent.at(0));
+        };
+        let last = self.present() - 1;
+        // It changes places with the last gate, and then stands behind those that are counted.
+        self.numbers.swap(place, last);
+        self.lengths.swap(place, last);
+        self.count = last as u32;
+        let (others, own) = self.lengths.split_at(last);
+        lower(&mut self.longest, &own[0], others);
+        Ok(())
+    }
+
+    // A gate leaves. Nothing is measured: it costs a pass over the numbers and two over 512 lengths; and of each piece at which no gate is longer, one
+    // over this piece's lengths up to the first as long, so in all at most one pass over the lengths of the gates present.
+    pub fn leave(&mut self, gate: u32) -> Changed
+        ensures { Leaves Represents gate self.old result self.new }
+    {
+        changed_of(self.try_leave(gate))
+    }
+
+    // The 512 lengths: a copy. By the array's own `map` it takes thirty times the instructions.
+    pub fn lengths(&self, out: &mut [u64; MOST_PIECES])
+        ensures { Lengths Represents self.now out.new }
+    {
+        for k in 0..MOST_PIECES {
+            out[k] = u64::from(self.longest[k]);
+        }
     }
 }

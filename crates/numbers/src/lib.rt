@@ -136,28 +136,23 @@ fn put_number_frame(
 }
 
 // A numeral, padded to the element's width.
+#[tactic(auto, using(frames::proofs::Around::framing))]
 fn put_numeral(out: &mut [u8], e: Element, n: Numeral) -> u64
     ensures { Put out.old (padded_number e n.mark n.prefix (digits_text n)) result out.new × (result < 2 ^ 42) }
 {
-    let width = e.width;
-    let flags = e.flags;
-    let mark = n.mark;
-    let prefix = n.prefix;
     let len = numeral_len(n);
     let framed = put_number_frame(
         out,
-        specifiers::params::width_of(width),
-        fill_of(flags),
-        mark,
-        prefix,
+        specifiers::params::width_of(e.width),
+        fill_of(e.flags),
+        n.mark,
+        n.prefix,
         len as u64,
     );
-    let total = framed.added + len as u64;
-    if framed.fits {
-        let at = framed.at;
+    if let Some(at) = framed.at {
         write_numeral(&mut out[at..], n, len);
     }
-    total
+    framed.added + len as u64
 }
 
 // %d
@@ -224,29 +219,23 @@ pub fn format_numeral(
 }
 
 // A finite float.
+#[tactic(auto, using(frames::proofs::Around::framing))]
 pub fn format_finite(out: &mut [u8], e: Element, bits: u64) -> u64
     ensures { Put out.old (finite_text e bits) result out.new × (result < 2 ^ 42) }
 {
-    let width = e.width;
-    let flags = e.flags;
-    let precision = e.precision;
-    let upper = e.upper;
     let parts = binary64::to_parts(bits);
-    let mark = float_mark(flags, parts.negative);
-    let float = binary64::hex_float(bits, precision);
+    let float = binary64::hex_float(bits, e.precision);
     let n = hexfloats::hex_float_len(float);
     let framed = put_number_frame(
         out,
-        specifiers::params::width_of(width),
-        fill_of(flags),
-        mark,
-        hex_prefix(upper),
+        specifiers::params::width_of(e.width),
+        fill_of(e.flags),
+        float_mark(e.flags, parts.negative),
+        hex_prefix(e.upper),
         n,
     );
-    let total = framed.added + n;
-    if framed.fits {
-        let at = framed.at;
-        hexfloats::write_hex_float(&mut out[at..], float, upper);
+    if let Some(at) = framed.at {
+        hexfloats::write_hex_float(&mut out[at..], float, e.upper);
     }
-    total
+    framed.added + n
 }

@@ -6,7 +6,7 @@ use Rattle.writing.proofs.FromRight.{from_right}
 use Rattle.numerals.specs.Digits.{digits_in, places, digits, letter_of, letters_of, numeral, decimal}
 use Rattle.numerals.specs.Grouping.{comma_after, grouped}
 use Rattle.writing.proofs.Backwards.{right_more}
-use Rattle.numerals.proofs.Digits.{letters-append, length-numeral}
+use Rattle.numerals.proofs.Digits.{places_pos, twenty_places, letters-append, length-numeral}
 
 -- a comma, or none
 comma : (r : ℕ) → r % 3 ≡ 2 → comma_after (suc r) ≡ 44 ∷ []
@@ -113,3 +113,5 @@ text_right r (suc k) v =
 pub grouped_right : (x : ℕ) → grouped (decimal x) ≡ from_right group_byte group_next (length (grouped (decimal x))) (x, 0)
 unfolding text digits numeral
 grouped_right x = subst (λ (l : List ℕ). Right l (x, 0)) (by_none (letters_of false (digits_in 10 (places 10 x) x))) (text_right 0 (places 10 x) x)
+
+pub ruleset grouped_lengths = (places_pos, twenty_places, length-grouped-decimal)

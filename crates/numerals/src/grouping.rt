@@ -6,6 +6,7 @@ ghost use Rattle.numerals.specs.Digits.{decimal};
 ghost use Rattle.numerals.specs.Grouping.{grouped};
 
 // The length of x in decimal with commas, from its number of digits.
+#[tactic(auto, using(crate::proofs::Commas::grouped_lengths))]
 pub fn grouped_len(x: u64) -> usize
     ensures { result ≡ length (grouped (decimal x)) }
 {
@@ -19,17 +20,15 @@ pub fn write_grouped(out: &mut [u8], x: u64, n: usize) -> usize
     ensures { Wrote out.old (grouped (decimal x)) result out.new }
 {
     let mut v = x;
-    let mut run: u64 = 0;
-    let mut i = n;
-    while 0 < i {
-        i = i - 1;
+    let mut run = 0u8;
+    for i in (0..n).rev() {
         if run == 3 {
             out[i] = b',';
             run = 0;
         } else {
             out[i] = crate::digit_letter(v % 10, false);
-            v = v / 10;
-            run = run + 1;
+            v /= 10;
+            run += 1;
         }
     }
     n

@@ -23,9 +23,10 @@ pub fn magnitude(x: u64) -> u64
     ensures { result ≡ unsigned_abs (int_of 64 x) }
 {
     if x < 0x8000_0000_0000_0000 {
-        return x;
+        x
+    } else {
+        0u64.wrapping_sub(x)
     }
-    std::num::wrapping_sub_u64(0, x)
 }
 
 // The integer that 64 bits stand for: in two's complement where it is signed, else as they are.
@@ -33,14 +34,15 @@ pub fn integer_of(signed: bool, x: u64) -> SignMagnitude
     ensures { result ≡ sign_magnitude (integer_of signed x) }
 {
     if signed {
-        return SignMagnitude {
+        SignMagnitude {
             negative: is_negative(x),
             magnitude: magnitude(x),
-        };
-    }
-    SignMagnitude {
-        negative: false,
-        magnitude: x,
+        }
+    } else {
+        SignMagnitude {
+            negative: false,
+            magnitude: x,
+        }
     }
 }
 
@@ -48,8 +50,5 @@ pub fn integer_of(signed: bool, x: u64) -> SignMagnitude
 pub fn low_bits(x: u64, width: u32) -> u64
     ensures { result ≡ x % 2 ^ width }
 {
-    if 64 <= width {
-        return x;
-    }
-    x % (1u64 << width)
+    if 64 <= width { x } else { x % (1 << width) }
 }

@@ -12,18 +12,11 @@ ghost use Rattle.numerals.specs.Digits.{digits_in, places, letter_of, letters_of
 ghost use Rattle.numerals.specs.Bases.{base_of};
 
 // The base in which a number is written.
-#[derive(Clone, Copy)]
+#[derive(Clone, Copy, PartialEq, Eq)]
 pub enum Radix {
     Decimal,
     Octal,
     Hexadecimal,
-}
-
-// A number that a format may give: a width or a precision, by its digits, or none. The original's names.
-#[derive(Clone, Copy)]
-pub enum NumericParam {
-    Literal(u32),
-    FromArgument,
 }
 
 // The letter of a digit below 16: small, or capital where upper is set. A sum, so that there is no branch: n / 10 is 1 from ten on and 0 below, and gap is how

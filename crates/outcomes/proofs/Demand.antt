@@ -1,8 +1,8 @@
 -- Demand 3, whole, of an output and ends over whose starts the text and its ends are laid. Assumes nothing.
+use Rattle.std.specs.Prelude.{None}
 use mathlib.Core.Path.{◌≡◌, refl, sym, ap, subst, ◌∙◌}
 use mathlib.Core.Bool.{true, false}
 use mathlib.Core.List.{List, [], ◌++◌}
-use mathlib.Core.Option.{none}
 use Prim.Native.Nat.{ℕ, zero, suc, ◌+◌, ◌-◌, ◌≤◌, ◌<◌}
 use native.Mathlib.Omega.{arith}
 use lib.ListN.{length, get_or, take, drop, get_or-append}
@@ -30,7 +30,7 @@ use Rattle.outcomes.proofs.Accepted.{Accepts}
 
 -- a piece that is printed, read back by the letter before its end
 module _ (s row : List ℕ) (kept : is_row row ≡ true) (bytes : AllBytes row) (to : ℕ) where
-  piece-reads : (p : Piece) → PieceIn s (kinds_of row) p → piece_stop s row p ≡ none
+  piece-reads : (p : Piece) → PieceIn s (kinds_of row) p → piece_stop s row p ≡ None
       → ((e : Element) → p ≡ AnElement e → is_time e.conversion ≡ false → NamedBy (get_or s (to - 1) 0) e.conversion e.upper)
       → DenotesValue s row to p (piece_text s row p)
   unfolding shown_piece

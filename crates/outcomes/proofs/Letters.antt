@@ -1,4 +1,5 @@
 -- The kinds of a row are known, and the letter of a listed element stands before its end in the format. Assumes nothing.
+use Rattle.std.specs.Prelude.{Ok, Some, None, Option}
 use mathlib.Core.Path.{◌≡◌, refl, sym, ap, subst, ◌∙◌}
 use mathlib.Core.Bool.{Bool, true, false}
 use mathlib.Core.List.{List, [], ◌∷◌, ◌++◌, append_assoc, append-nil}
@@ -14,7 +15,6 @@ use Rattle.kinds.specs.declared.Kind.{Kind}
 use Rattle.kinds.specs.declared.Kind.TheVariants as K
 use Rattle.specifiers.specs.declared.Element.{Element}
 use Rattle.parsing.specs.Listed.{Placed, placed, ended}
-use Rattle.parsing.specs.declared.Ended.TheVariants.{Finished}
 use Rattle.parsing.specs.declared.Piece.{Piece}
 use Rattle.parsing.specs.declared.Piece.TheVariants.{Element as AnElement}
 use Rattle.grammar.specs.Runs.{begins}
@@ -34,15 +34,15 @@ use Rattle.outcomes.specs.Demand.{is_time}
 use Rattle.outcomes.proofs.Unique.{never, letter-names}
 
 -- every entry of a row has a kind
-entry_known : (text : List ℕ) (k : Kind) (null : Bool) (v : ℕ) → is_entry text (record { kind = k; null = null; value = v }) ≡ true → is_known k ≡ true
+entry_known : (text : List ℕ) (k : Option Kind) (null : Bool) (v : ℕ) → is_entry text (record { kind = k; null = null; value = v }) ≡ true → is_known k ≡ true
 unfolding is_entry
-entry_known text (K.Integer k) null v e = refl
-entry_known text K.Float64 null v e = refl
-entry_known text K.Boolean null v e = refl
-entry_known text K.Text null v e = refl
-entry_known text K.Timestamp null v e = refl
-entry_known text K.NoKind true v e = absurd (never e)
-entry_known text K.NoKind false v e = absurd (never e)
+entry_known text (Some (K.Integer k)) null v e = refl
+entry_known text (Some K.Float64) null v e = refl
+entry_known text (Some K.Boolean) null v e = refl
+entry_known text (Some K.Text) null v e = refl
+entry_known text (Some K.Timestamp) null v e = refl
+entry_known text None true v e = absurd (never e)
+entry_known text None false v e = absurd (never e)
 
 pub row-kinds : (row : List ℕ) → is_row row ≡ true → KindsKnown (kinds_of row)
 unfolding entry_at
@@ -75,7 +75,7 @@ last_byte w b e front tail =
     ∙ get_or_at head b tail 0 _ (sym place)
 
 -- The letter of an element of a format that is read to its end.
-module _ (s ks : List ℕ) (known : KindsKnown ks) (end : ended s ks ≡ Finished) where
+module _ (s ks : List ℕ) (known : KindsKnown ks) (end : ended s ks ≡ Ok tt) where
   pub letter_in : (i : ℕ) (d : Placed) → i < length (placed s ks) → (e : Element) → (get_or (placed s ks) i d).piece ≡ AnElement e
       → is_time e.conversion ≡ false → NamedBy (get_or s ((get_or (placed s ks) i d).to - 1) 0) e.conversion e.upper
   unfolding bytes_before

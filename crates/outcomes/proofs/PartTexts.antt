@@ -1,5 +1,6 @@
 -- The texts of a format's pieces are those of its parts: text as it stands, `%` for `%%`, byte 10 for `%n`, and of an element the value it takes. What
 -- demand 3 says of pieces, it says of parts. Of rows that keep their layout.
+use Rattle.std.specs.Prelude.{Option, Ok}
 use mathlib.Core.Path.{◌≡◌, refl, sym, ap, subst, ◌∙◌}
 use mathlib.Core.Bool.{true, false}
 use mathlib.Core.List.{List, [], ◌∷◌, ◌++◌, append_assoc}
@@ -9,7 +10,6 @@ use Prim.Native.Char.{code}
 use lib.ListN.{length, get_or, take, drop, length-append}
 use lib.Seq.{take-append_seam, drop-append_seam, drop-drop}
 use Rattle.writing.specs.Text.{ascii, has}
-use Rattle.numerals.specs.declared.NumericParam.{NumericParam}
 use Rattle.kinds.specs.declared.letters.ConversionType.{ConversionType}
 use Rattle.kinds.specs.declared.letters.ConversionType.TheVariants as C
 use Rattle.parsing.specs.Listed.{Placed}
@@ -29,9 +29,9 @@ use Rattle.elements.specs.PieceTexts.{shown_entry, shown_piece, piece_text}
 use Rattle.outcomes.specs.Demand.{cut_out, piece_of, is_time, DenotesValue, Demand3}
 use Rattle.outcomes.specs.PartTexts.{PartText, PartTexts, nothing, one, PartDenotes}
 use Rattle.outcomes.specs.Printed.{texts_of, texts, printed}
-use Rattle.outcomes.specs.declared.Outcome.TheVariants.{Accepted}
 use Rattle.outcomes.proofs.Accepted.{fitted}
 use Rattle.outcomes.proofs.Letters.{row-kinds}
+use Rattle.outcomes.specs.declared.Measured.{Measured}
 
 -- some bytes behind others
 behind : (front x rest : List ℕ) → take (length x) (drop (length front) (front ++ (x ++ rest))) ≡ x
@@ -98,7 +98,7 @@ part_denotes s row to bytes (Q.is_text_part e f) d = tt
 part_denotes s row to bytes (Q.is_percent e f) d = tt
 part_denotes s row to bytes (Q.is_newline e) d = tt
 part_denotes s row to bytes (Q.is_element {e} {w} is) d = λ n.
-    subst (λ (p : NumericParam). ReadsBack (get_or s (to - 1) 0) (entry_at row w.argument) p bytes) is.precision
+    subst (λ (p : Option ℕ). ReadsBack (get_or s (to - 1) 0) (entry_at row w.argument) p bytes) is.precision
     (subst (λ (a : ℕ). ReadsBack (get_or s (to - 1) 0) (entry_at row a) e.precision bytes) is.argument
     (d (no_time e.conversion w.letter is.conversion n)))
 
@@ -121,13 +121,13 @@ pub record PartsDenote (s row out ends : List ℕ) : Type 0 where
   pub denote : (behind before : List Part) (p : Part) → parts ≡ behind ++ (p ∷ before)
       → PartDenotes s row (length (bytes_before (p ∷ before))) p (cut_out out ends (length before))
 
-pub printed-columns : (s row : List ℕ) (room slots n k : ℕ) {out ends : List ℕ} → printed s row room slots ≡ Accepted n k → Demand3 s row n k out ends
-    → PartsDenote s row out ends
-printed-columns s row room slots n k e d =
-    let a = (fitted s row room slots n k e).accepts in
-    let m = parts_of s (kinds_of row) (row-kinds row a.kept) a.finished in
+pub printed-columns : (s row : List ℕ) (room slots : ℕ) (m : Measured) {out ends : List ℕ} → printed s row room slots ≡ Ok m
+    → Demand3 s row m.length m.pieces out ends → PartsDenote s row out ends
+printed-columns s row room slots m e d =
+    let a = (fitted s row room slots m e).accepts in
+    let made = parts_of s (kinds_of row) (row-kinds row a.kept) a.finished in
     record {
-      parts = m.parts;
-      whole = m.whole;
-      denote = λ behind before p q. columns_denote s row a.kept d behind before p (subst (Whole s (kinds_of row)) q m.whole);
+      parts = made.parts;
+      whole = made.whole;
+      denote = λ behind before p q. columns_denote s row a.kept d behind before p (subst (Whole s (kinds_of row)) q made.whole);
     }

@@ -1,4 +1,6 @@
 -- What is written decides the element, and so the texts of parts. Assumes nothing.
+use Rattle.refusals.proofs.Parsed.{same_read}
+use Rattle.std.specs.Prelude.{Option, Some, Ok, Bool}
 use mathlib.Core.Path.{◌≡◌, refl, sym, ap, subst, ◌∙◌}
 use mathlib.Core.Bool.{true, false, not}
 use mathlib.Core.List.{List, [], ◌∷◌, ◌++◌}
@@ -8,16 +10,13 @@ use lib.ListN.{length, drop}
 use Rattle.writing.specs.Text.{ascii, has}
 use Rattle.numerals.specs.declared.Radix.TheVariants.{Decimal, Octal, Hexadecimal}
 use Rattle.kinds.specs.Letters.{time_of, small_of, capital_of}
-use Rattle.kinds.specs.Kinds.{kind_of, fit_of}
+use Rattle.kinds.specs.Kinds.{kind_of, fit_in}
 use Rattle.kinds.specs.declared.letters.TimeFormat.{TimeFormat}
 use Rattle.kinds.specs.declared.letters.TimeFormat.TheVariants as T
-use Rattle.kinds.specs.declared.letters.TimeLetter.{TimeLetter}
-use Rattle.kinds.specs.declared.letters.TimeLetter.TheVariants.{Component}
 use Rattle.kinds.specs.declared.letters.ConversionType.{ConversionType}
 use Rattle.kinds.specs.declared.letters.ConversionType.TheVariants as C
 use Rattle.specifiers.specs.declared.Element.{Element}
 use Rattle.specifiers.specs.Specifier.{time_letter, letter_from}
-use Rattle.specifiers.specs.declared.LetterTaken.TheVariants as L
 use Rattle.grammar.specs.Runs.{begins, all}
 use Rattle.grammar.specs.Parts.{Written, Part, text, percent, newline, element}
 use Rattle.grammar.specs.Elements.{letters, IsLetter, plain, time, kind_at}
@@ -63,7 +62,7 @@ letter-names (C.Time t) n = absurd (never (sym n))
 
 -- A letter behind t or T names its component.
 abbrev Named : TimeFormat → ℕ → Type 0
-Named y b = time_of b ≡ Component y
+Named y b = time_of b ≡ Some y
 
 component-named : (y : TimeFormat) (b : ℕ) → has (component_letters y) b ≡ true → Named y b
 unfolding time_of
@@ -100,21 +99,21 @@ component-named T.CLower = all_of (Named T.CLower) (ascii "c") (refl, tt)
 
 -- So what is written of a letter says how it is parsed.
 timed : (y : TimeFormat) {x : List ℕ} → IsLetter x → begins (has (ascii "tT")) x ≡ true → begins (has (component_letters y)) (drop 1 x) ≡ true
-    → letter_from x 0 ≡ L.Read (C.Time y) (begins (has capitals) x) (length x)
+    → letter_from x 0 ≡ Ok (((C.Time y), (begins (has capitals) x)), (length x))
 unfolding all has
 timed y (plain {l} h) i n = absurd (never (sym (ap not i) ∙ all-has (λ b. not (has (ascii "tT") b)) letters l refl h))
 timed y (time {t} {l} h k) i n =
     let q = component-named y l n in
-    all_of (λ t. letter_from (t ∷ l ∷ []) 0 ≡ L.Read (C.Time y) (has capitals t) 2) (ascii "tT")
-    (ap (λ (z : TimeLetter). time_letter false z 0) q, (ap (λ (z : TimeLetter). time_letter true z 0) q, tt)) t h
+    all_of (λ t. letter_from (t ∷ l ∷ []) 0 ≡ Ok (((C.Time y), (has capitals t)), 2)) (ascii "tT")
+    (ap (λ (z : Option TimeFormat). time_letter false z 0) q, (ap (λ (z : Option TimeFormat). time_letter true z 0) q, tt)) t h
 
 other : (c : ConversionType) → is_time c ≡ false → {x : List ℕ} → IsLetter x → begins (has (letters_of c)) x ≡ true
-    → letter_from x 0 ≡ L.Read c (begins (has capitals) x) (length x)
+    → letter_from x 0 ≡ Ok ((c, (begins (has capitals) x)), (length x))
 other c n (plain {l} h) i = (letter-names c n l i).0
 other c n (time {t} {l} h k) i = absurd (never (sym (letter-names c n t i).1 ∙ h))
 
 letter-read : (c : ConversionType) {x : List ℕ} → IsLetter x → begins (has (letters_of c)) x ≡ true → names_component c (drop 1 x) ≡ true
-    → letter_from x 0 ≡ L.Read c (begins (has capitals) x) (length x)
+    → letter_from x 0 ≡ Ok ((c, (begins (has capitals) x)), (length x))
 letter-read C.Boolean x i n = other C.Boolean refl x i
 letter-read C.HexHash x i n = other C.HexHash refl x i
 letter-read C.String x i n = other C.String refl x i
@@ -129,14 +128,14 @@ pub same-element : {ks : List ℕ} {e f : Element} {w : Written} → ElementIs k
 same-element {ks} {e} {f} {w} x y =
     let l =
     sym (letter-read e.conversion x.letter x.conversion x.component) ∙ letter-read f.conversion y.letter y.conversion y.component in
-    let conversion : e.conversion ≡ f.conversion = cc in
+    let conversion : e.conversion ≡ f.conversion = ap (λ (p : ConversionType × Bool). p.0) (same_read l).0 in
     let upper = x.upper ∙ sym y.upper in
     let argument = x.argument ∙ sym y.argument in
     let flags = x.flags ∙ sym y.flags in
     let width = x.width ∙ sym y.width in
     let precision = x.precision ∙ sym y.precision in
     let k = kind_of (kind_at ks w.argument) in
-    let q = sym x.form ∙ ap (λ (c : ConversionType). fit_of c k) conversion ∙ y.form in
+    let q = sym x.form ∙ ap (λ (c : ConversionType). fit_in c k) conversion ∙ y.form in
     let form : e.form ≡ f.form = cc in
     λ i. record {
       argument = argument i;

@@ -1,5 +1,5 @@
 -- Demand 3, whole: one claim over a format and a row, of the bytes and ends that printing leaves. 01, "What demand 3 compares".
-use Rattle.std.specs.Prelude.{ℕ, zero, suc, ◌-◌, ◌<◌, ◌≡◌, Bool, true, false, List, length, get_or, take, drop}
+use Rattle.std.specs.Prelude.{ℕ, zero, suc, ◌-◌, ◌<◌, ◌≡◌, Bool, true, false, List, length, get_or, take, drop, Err, Ok}
 use Rattle.kinds.specs.declared.letters.ConversionType.{ConversionType}
 use Rattle.kinds.specs.declared.letters.ConversionType.TheVariants as C
 use Rattle.parsing.specs.Covers.{Covers}
@@ -10,8 +10,7 @@ use Rattle.rows.specs.Row.{kinds_of, entry_at}
 use Rattle.elements.specs.PieceTexts.{piece_text}
 use Rattle.columns.specs.Columns.{ReadsBack}
 use Rattle.outcomes.specs.Printed.{texts, joined}
-use Rattle.outcomes.specs.declared.Outcome.{Outcome}
-use Rattle.outcomes.specs.declared.Outcome.TheVariants.{Accepted, Refused}
+use Rattle.outcomes.specs.Printed.{Outcome}
 
 -- "the end before (0 for the first)"
 abbrev pub end_before : List ℕ → ℕ → ℕ
@@ -63,5 +62,5 @@ pub record Demand3 (s row : List ℕ) (n k : ℕ) (out ends : List ℕ) : Type 0
 
 -- "A format and row print where nothing stops the call."
 abbrev pub Demanded : List ℕ → List ℕ → Outcome → List ℕ → List ℕ → Type 0
-Demanded s row (Accepted n k) out ends = Demand3 s row n k out ends
-Demanded s row (Refused number place) out ends = Unit {0}
+Demanded s row (Ok m) out ends = Demand3 s row m.length m.pieces out ends
+Demanded s row (Err stopped) out ends = Unit {0}

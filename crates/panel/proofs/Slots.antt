@@ -1,4 +1,5 @@
 -- What a pass leaves in slots, and ends as bytes read again. Assumes nothing.
+use Rattle.std.specs.Prelude.{Ok, Err}
 use mathlib.Core.Path.{◌≡◌, refl, sym, ap, subst, ◌∙◌}
 use mathlib.Core.List.{List, ◌++◌}
 use Prim.Native.Nat.{ℕ, suc, ◌/◌, ◌^◌, ◌≤◌, ◌<◌}
@@ -9,12 +10,11 @@ use Rattle.writing.specs.Laid.{laid}
 use Rattle.parsing.specs.Listed.{placed}
 use Rattle.rows.specs.Row.{kinds_of}
 use Rattle.rows.proofs.Rows.{AllBytes}
-use Rattle.outcomes.specs.Printed.{texts, printed_text, ends_from, printed, written}
+use Rattle.outcomes.specs.Printed.{Outcome, texts, printed_text, ends_from, printed, written}
 use Rattle.printing.specs.Stages.{Staged}
 use Rattle.printing.proofs.Staged.{staged_text, staged_ends}
 use Rattle.outcomes.specs.Demand.{Demanded}
-use Rattle.outcomes.specs.declared.Outcome.{Outcome}
-use Rattle.outcomes.specs.declared.Outcome.TheVariants.{Accepted, Refused}
+use Rattle.outcomes.specs.declared.Measured.{Measured}
 use Rattle.outcomes.proofs.Joined.{ends_length, nth_end, joined_part}
 use Rattle.outcomes.proofs.Texts.{texts-length}
 use Rattle.outcomes.proofs.Accepted.{Fitted, fitted}
@@ -38,41 +38,41 @@ module _ (s row : List ℕ) where
   as_many = ends_length 0 (texts s row) ∙ texts-length s row (placed s (kinds_of row))
 
   -- Of what is printed: what a pass leaves of D and E, and that it can be taken from there again.
-  module _ (room m n k : ℕ) (f : Fitted s row room m n k) (D E out ends : List ℕ) (w : Staged s row D E out ends) where
-    pub text_of : n ≤ length D → out ≡ laid D (printed_text s row)
+  module _ (room slots : ℕ) (m : Measured) (f : Fitted s row room slots m) (D E out ends : List ℕ) (w : Staged s row D E out ends) where
+    pub text_of : m.length ≤ length D → out ≡ laid D (printed_text s row)
     text_of h = staged_text s row f.answer w (omega (arith, f.accepts.total))
 
-    pub ends_of : k ≤ length E → take k ends ≡ ends_from 0 (texts s row)
+    pub ends_of : m.pieces ≤ length E → take m.pieces ends ≡ ends_from 0 (texts s row)
     unfolding laid
     ends_of h =
         let Z = ends_from 0 (texts s row) in
         let all = staged_ends s row f.answer w (omega (arith, f.accepts.pieces)) (omega (arith, f.accepts.total, f.wide)) in
-        ap (take k) all ∙ take_at Z (drop (length Z) E) k (as_many ∙ sym f.accepts.pieces)
+        ap (take m.pieces) all ∙ take_at Z (drop (length Z) E) m.pieces (as_many ∙ sym f.accepts.pieces)
 
-    pub holds : length out ≡ length D → length ends ≡ length E → Holds s row n k out ends
+    pub holds : length out ≡ length D → length ends ≡ length E → Holds s row m.length m.pieces out ends
     unfolding laid
     holds long many = λ h j.
         let T = printed_text s row in
-        let n_fits : n ≤ length D = omega (arith, long) in
-        let k_fits : k ≤ length E = omega (arith, many) in
-        (ap (take n) (text_of n_fits) ∙ take_at T (drop (length T) D) n (sym f.accepts.total), ends_of k_fits)
+        let n_fits : m.length ≤ length D = omega (arith, long) in
+        let k_fits : m.pieces ≤ length E = omega (arith, many) in
+        (ap (take m.length) (text_of n_fits) ∙ take_at T (drop (length T) D) m.length (sym f.accepts.total), ends_of k_fits)
 
   -- demand 3 of the bytes, read as ends
-  small : (room m n k : ℕ) → Fitted s row room m n k → (i : ℕ) → i < length (ends_from 0 (texts s row)) → get_or (ends_from 0 (texts s row)) i 0 < 2 ^ 32
+  small : (room slots : ℕ) (m : Measured) → Fitted s row room slots m → (i : ℕ) → i < length (ends_from 0 (texts s row)) → get_or (ends_from 0 (texts s row)) i 0 < 2 ^ 32
   unfolding printed_text
-  small room m n k f i h =
+  small room slots m f i h =
       let l = texts s row in
       let j : i < length l = omega (arith, ends_length 0 l) in
       omega (arith, nth_end 0 l i j, joined_part (suc i) l, f.wide, f.accepts.total)
 
-  pub demanded : (room m : ℕ) (o : Outcome) → printed s row room m ≡ o → AllBytes row → (out d e : List ℕ) → out ≡ written o d (printed_text s row)
+  pub demanded : (room slots : ℕ) (o : Outcome) → printed s row room slots ≡ o → AllBytes row → (out d e : List ℕ) → out ≡ written o d (printed_text s row)
       → Demanded s row o out (ends_read (written o e (all_bytes (ends_from 0 (texts s row)))))
-  demanded room m (Accepted n k) q bytes out d e h =
-      let f = fitted s row room m n k q in
+  demanded room slots (Ok m) q bytes out d e h =
+      let f = fitted s row room slots m q in
       let E = ends_from 0 (texts s row) in
       let past = ends_read (drop (length (all_bytes E)) e) in
-      demand s row n k f.accepts d (E ++ past) out (ends_read (laid e (all_bytes E))) h (read_over E e (small room m n k f)) bytes
-  demanded room m (Refused number place) q bytes out d e h = tt
+      demand s row m.length m.pieces f.accepts d (E ++ past) out (ends_read (laid e (all_bytes E))) h (read_over E e (small room slots m f)) bytes
+  demanded room slots (Err t) q bytes out d e h = tt
 
   -- what the entry says of a call that prints
   pub prints : (d e : List ℕ) (o : Outcome) (out ends : List ℕ) → Prints s row d e o out ends → AllBytes row → (a : PrintAnswer) → a ≡ print_answer o

@@ -1,25 +1,24 @@
 -- The C entries of checking, measuring and printing. 01: "The panel's host program in C calls checking, measuring and printing on numbers and byte
 -- slices; ends pass there as 4 little-endian bytes each, and up to 3 bytes left over are never written."
-use Rattle.std.specs.Prelude.{ℕ, ◌/◌, ◌≤◌, ◌≡◌, List, [], ◌∷◌, length, take}
+use Rattle.std.specs.Prelude.{ℕ, ◌/◌, ◌≤◌, ◌≡◌, List, [], ◌∷◌, length, take, Result, Ok, Err}
 use Rattle.writing.specs.Laid.{laid}
 use Rattle.words.specs.LittleEndian.{little_endian, all_bytes}
 use Rattle.parsing.specs.declared.Checked.{Checked}
-use Rattle.parsing.specs.declared.Checked.TheVariants as C
-use Rattle.outcomes.specs.Printed.{texts, printed_text, ends_from, printed, written}
+use Rattle.refusals.specs.Numbers.{refusal_number}
+use Rattle.refusals.specs.declared.Stop.{Stop}
+use Rattle.outcomes.specs.Printed.{Outcome, texts, printed_text, ends_from, printed, written}
 use Rattle.outcomes.specs.Demand.{Demanded}
-use Rattle.outcomes.specs.declared.Outcome.{Outcome}
-use Rattle.outcomes.specs.declared.Outcome.TheVariants.{Accepted, Refused}
 use Rattle.panel.specs.declared.CheckAnswer.{CheckAnswer}
 use Rattle.panel.specs.declared.PrintAnswer.{PrintAnswer}
 
 -- 01, "What stops a call", "Returned": the number and the place; 0 where nothing stops it, with what is returned then.
-abbrev pub check_answer : Checked → CheckAnswer
-check_answer (C.Accepted pieces largest) = record { number = 0; place = 0; pieces = pieces; largest = largest }
-check_answer (C.Refused number place) = record { number = number; place = place; pieces = 0; largest = 0 }
+abbrev pub check_answer : Result Checked Stop → CheckAnswer
+check_answer (Ok found) = record { number = 0; place = 0; pieces = found.pieces; largest = found.largest }
+check_answer (Err t) = record { number = refusal_number t.refusal; place = t.place; pieces = 0; largest = 0 }
 
 abbrev pub print_answer : Outcome → PrintAnswer
-print_answer (Accepted length pieces) = record { number = 0; place = 0; length = length; pieces = pieces }
-print_answer (Refused number place) = record { number = number; place = place; length = 0; pieces = 0 }
+print_answer (Ok found) = record { number = 0; place = 0; length = found.length; pieces = found.pieces }
+print_answer (Err t) = record { number = refusal_number t.refusal; place = t.place; length = 0; pieces = 0 }
 
 -- The ends that bytes hold, "4 little-endian bytes each"; "up to 3 bytes left over" hold none.
 unfoldable pub ends_read : List ℕ → List ℕ

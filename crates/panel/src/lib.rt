@@ -5,7 +5,6 @@
 ghost use Rattle.std.specs.Prelude.{◌≡◌, ◌*◌, ◌/◌, ◌≤◌, length};
 ghost use Rattle.parsing.specs.Check.{checked};
 ghost use Rattle.outcomes.specs.Printed.{measured, printed};
-ghost use Rattle.outcomes.specs.declared.Outcome.TheVariants.{Accepted};
 ghost use Rattle.writing.specs.Laid.{laid};
 ghost use Rattle.gates.specs.Gates.{joins};
 ghost use Rattle.live.specs.Lists.{Represents};
@@ -13,10 +12,12 @@ ghost use Rattle.live.specs.Promises.{Emptied, Changes, Leaves, Lengths};
 ghost use Rattle.panel.specs.Entries.{check_answer, print_answer, Holds, Prints, BothLaid, PanelPrints};
 
 use gates::Changed;
-use outcomes::Outcome;
+use live::GateList;
+use outcomes::{Measured, Outcome};
 use parsing::Checked;
+use refusals::Stop;
 
-// number is 0 where the format is accepted; else it is the refusal's, with its place.
+// number is 0 where the format is accepted; else it is the refusal's, with its place. For C, which has no Result.
 #[repr(C)]
 #[derive(Clone, Copy)]
 pub struct CheckAnswer {
@@ -26,7 +27,7 @@ pub struct CheckAnswer {
     pub largest: u64,
 }
 
-// number is 0 where the row is printed or measured; else it is the refusal's, with its place.
+// number is 0 where the row is printed or measured; else it is the refusal's, with its place. For C, which has no Result.
 #[repr(C)]
 #[derive(Clone, Copy)]
 pub struct PrintAnswer {
@@ -36,38 +37,38 @@ pub struct PrintAnswer {
     pub pieces: u64,
 }
 
-fn check_answer(found: Checked) -> CheckAnswer
-    ensures { result ≡ check_answer found }
+fn check_answer(answer: Result<Checked, Stop>) -> CheckAnswer
+    ensures { result ≡ check_answer answer }
 {
-    match found {
-        Checked::Accepted { pieces, largest } => CheckAnswer {
+    match answer {
+        Ok(found) => CheckAnswer {
             number: 0,
             place: 0,
-            pieces: pieces as u64,
-            largest: largest as u64,
+            pieces: found.pieces as u64,
+            largest: found.largest as u64,
         },
-        Checked::Refused { number, place } => CheckAnswer {
-            number: number as u64,
-            place: place as u64,
+        Err(stop) => CheckAnswer {
+            number: stop.refusal.number() as u64,
+            place: stop.place as u64,
             pieces: 0,
             largest: 0,
         },
     }
 }
 
-fn print_answer(outcome: Outcome) -> PrintAnswer
-    ensures { result ≡ print_answer outcome }
+fn print_answer(answer: Outcome) -> PrintAnswer
+    ensures { result ≡ print_answer answer }
 {
-    match outcome {
-        Outcome::Accepted { length, pieces } => PrintAnswer {
+    match answer {
+        Ok(found) => PrintAnswer {
             number: 0,
             place: 0,
-            length: length,
-            pieces: pieces,
+            length: found.length,
+            pieces: found.pieces,
         },
-        Outcome::Refused { number, place } => PrintAnswer {
-            number: number as u64,
-            place: place as u64,
+        Err(stop) => PrintAnswer {
+            number: stop.refusal.number() as u64,
+            place: stop.place as u64,
             length: 0,
             pieces: 0,
         },
@@ -76,7 +77,7 @@ fn print_answer(outcome: Outcome) -> PrintAnswer
 
 // Checks a format against kinds.
 #[unsafe(no_mangle)]
-pub extern "C" fn panel_check<'a>(fmt: &'a [u8], kinds: &'a [u8]) -> CheckAnswer
+pub extern "C" fn panel_check(fmt: &[u8], kinds: &[u8]) -> CheckAnswer
     ensures { result ≡ check_answer (checked fmt.now kinds.now) }
 {
     check_answer(printing::check(fmt, kinds))
@@ -84,78 +85,61 @@ pub extern "C" fn panel_check<'a>(fmt: &'a [u8], kinds: &'a [u8]) -> CheckAnswer
 
 // Measures a row under a format.
 #[unsafe(no_mangle)]
-pub extern "C" fn panel_measure<'a>(fmt: &'a [u8], row: &'a [u8]) -> PrintAnswer
+pub extern "C" fn panel_measure(fmt: &[u8], row: &[u8]) -> PrintAnswer
     ensures { result ≡ print_answer (measured fmt.now row.now) }
 {
     print_answer(printing::measure(fmt, row))
 }
 
 // Prints an accepted row by a pass of its own. A format has at most 512 pieces.
-fn print_long<'a>(
-    fmt: &'a [u8],
-    row: &'a [u8],
-    out: &mut [u8],
-    ends: &mut [u8],
-    bytes: u64,
-    pieces: u64,
-)
-    requires { printed fmt.now row.now (length out.old) (length ends.old / 4) ≡ Accepted bytes pieces }
+fn print_long(fmt: &[u8], row: &[u8], out: &mut [u8], ends: &mut [u8], found: Measured)
+    requires { printed fmt.now row.now (length out.old) (length ends.old / 4) ≡ Ok found }
     ensures { BothLaid fmt.now row.now out.old ends.old out.new ends.new }
 {
     let mut slots = [0u32; 512];
-    printing::stage(fmt, row, out, &mut slots);
-    words::write_fours(ends, &slots[..pieces as usize]);
+    let _ = printing::stage(fmt, row, out, &mut slots);
+    words::write_fours(ends, &slots[..found.pieces as usize]);
 }
 
 // Prints an accepted row: from text and slots where these hold it, else by another pass.
-fn print_accepted<'a>(
-    fmt: &'a [u8],
-    row: &'a [u8],
+fn print_accepted(
+    fmt: &[u8],
+    row: &[u8],
     out: &mut [u8],
     ends: &mut [u8],
     text: &[u8],
     slots: &[u32],
-    bytes: u64,
-    pieces: u64,
+    found: Measured,
 )
-    requires ends_value { printed fmt.now row.now (length out.old) (length ends.old / 4) ≡ Accepted bytes pieces }
-    requires holds { Holds fmt.now row.now bytes pieces text.now slots.now }
+    requires ends_value { printed fmt.now row.now (length out.old) (length ends.old / 4) ≡ Ok found }
+    requires holds { Holds fmt.now row.now found.length found.pieces text.now slots.now }
     ensures { BothLaid fmt.now row.now out.old ends.old out.new ends.new }
 {
-    if bytes <= text.len() as u64 {
-        if pieces <= slots.len() as u64 {
-            writing::write_text(out, &text[..bytes as usize]);
-            words::write_fours(ends, &slots[..pieces as usize]);
-            return;
-        }
+    if found.length <= text.len() as u64 && found.pieces <= slots.len() as u64 {
+        writing::write_text(out, &text[..found.length as usize]);
+        words::write_fours(ends, &slots[..found.pieces as usize]);
+    } else {
+        print_long(fmt, row, out, ends, found);
     }
-    print_long(fmt, row, out, ends, bytes, pieces);
 }
 
 // The pass that excludes every refusal leaves a short text and its ends ready to be copied.
-fn print_staged<'a>(fmt: &'a [u8], row: &'a [u8], out: &mut [u8], ends: &mut [u8]) -> Outcome
+fn print_staged(fmt: &[u8], row: &[u8], out: &mut [u8], ends: &mut [u8]) -> Outcome
     ensures { Prints fmt.now row.now out.old ends.old result out.new ends.new }
 {
     let mut text = [0u8; 256];
     let mut slots = [0u32; 64];
-    let found = printing::stage(fmt, row, &mut text, &mut slots);
-    let answer = printing::fit(found, out.len() as u64, (ends.len() / 4) as u64);
-    let Outcome::Accepted {
-        length: bytes,
-        pieces,
-    } = answer
-    else {
-        return answer;
-    };
-    print_accepted(fmt, row, out, ends, &text, &slots, bytes, pieces);
-    answer
+    let staged = printing::stage(fmt, row, &mut text, &mut slots);
+    let found = printing::fit(staged, out.len() as u64, (ends.len() / 4) as u64)?;
+    print_accepted(fmt, row, out, ends, &text, &slots, found);
+    Ok(found)
 }
 
 // Prints a row under a format.
 #[unsafe(no_mangle)]
-pub extern "C" fn panel_print<'a>(
-    fmt: &'a [u8],
-    row: &'a [u8],
+pub extern "C" fn panel_print(
+    fmt: &[u8],
+    row: &[u8],
     out: &mut [u8],
     ends: &mut [u8],
 ) -> PrintAnswer
@@ -166,37 +150,32 @@ pub extern "C" fn panel_print<'a>(
 
 // Empties a list of gates.
 #[unsafe(no_mangle)]
-pub extern "C" fn panel_list_empty(list: &mut [u32; live::WORDS])
+pub extern "C" fn panel_list_empty(list: &mut GateList)
     ensures { Emptied Represents list.new }
 {
-    live::empty(list);
+    list.empty();
 }
 
 // A gate joins a list, with its row under the list's format.
 #[unsafe(no_mangle)]
-pub extern "C" fn panel_list_join<'a>(
-    list: &mut [u32; live::WORDS],
-    gate: u32,
-    fmt: &'a [u8],
-    row: &'a [u8],
-) -> Changed
+pub extern "C" fn panel_list_join(list: &mut GateList, gate: u32, fmt: &[u8], row: &[u8]) -> Changed
     ensures { Changes Represents fmt.now (joins gate row.now) list.old result list.new }
 {
-    live::join(list, gate, fmt, row)
+    list.join(gate, fmt, row)
 }
 
 // A gate leaves a list.
 #[unsafe(no_mangle)]
-pub extern "C" fn panel_list_leave(list: &mut [u32; live::WORDS], gate: u32) -> Changed
+pub extern "C" fn panel_list_leave(list: &mut GateList, gate: u32) -> Changed
     ensures { Leaves Represents gate list.old result list.new }
 {
-    live::leave(list, gate)
+    list.leave(gate)
 }
 
 // The largest lengths of a list.
 #[unsafe(no_mangle)]
-pub extern "C" fn panel_list_lengths(list: &[u32; live::WORDS], lengths: &mut [u64; 512])
+pub extern "C" fn panel_list_lengths(list: &GateList, lengths: &mut [u64; 512])
     ensures { Lengths Represents list.now lengths.new }
 {
-    live::lengths(list, lengths);
+    list.lengths(lengths);
 }

@@ -1,4 +1,5 @@
 -- Reading piece by piece, over any step: how the pieces and the end go on from a cursor. Assumes nothing.
+use Rattle.std.specs.Prelude.{Err, Ok}
 use mathlib.Core.Path.{◌≡◌, refl}
 use mathlib.Core.List.{List, [], ◌∷◌}
 use Prim.Native.Nat.{ℕ, zero, suc, ◌≤◌, ◌<◌}
@@ -10,31 +11,32 @@ use Rattle.writing.proofs.Choose.{by_test}
 use Rattle.parsing.specs.Listed.{Placed, and_rest, placed_from, end_from}
 use Rattle.parsing.specs.declared.Piece.{Piece}
 use Rattle.parsing.specs.declared.Cursor.{Cursor}
-use Rattle.parsing.specs.declared.Step.{Step}
-use Rattle.parsing.specs.declared.Step.TheVariants.{Found, Refused}
-use Rattle.parsing.specs.declared.Ended.TheVariants.{Finished, Stopped}
+use Rattle.parsing.specs.Pieces.{Step}
+use Rattle.refusals.specs.Numbers.{stop}
+use Rattle.refusals.specs.declared.Refusal.TheVariants.{ManyPieces}
+use Rattle.refusals.specs.declared.Refusal.{Refusal}
 
 module _ (step : Cursor → Step) (size : ℕ) where
   -- inside the format: a piece, a refusal, or one piece too many
   module _ (c : Cursor) (inside : c.at < size) where
-    pub placed_found : (n : ℕ) (p : Piece) (m : Cursor) → step c ≡ Found p m
+    pub placed_found : (n : ℕ) (p : Piece) (m : Cursor) → step c ≡ Ok (p, m)
         → placed_from (suc n) step size c ≡ record { piece = p; from = c.at; to = m.at } ∷ placed_from n step size m
     unfolding placed_from
     placed_found n p m e = simp (lt-ltb c.at size inside, e)
 
-    pub placed-refused : (n number : ℕ) → step c ≡ Refused number → placed_from (suc n) step size c ≡ []
+    pub placed-refused : (n : ℕ) (refusal : Refusal) → step c ≡ Err refusal → placed_from (suc n) step size c ≡ []
     unfolding placed_from
-    placed-refused n number e = simp (lt-ltb c.at size inside, e)
+    placed-refused n refusal e = simp (lt-ltb c.at size inside, e)
 
-    pub end_found : (n : ℕ) (p : Piece) (m : Cursor) → step c ≡ Found p m → end_from (suc n) step size c ≡ end_from n step size m
+    pub end_found : (n : ℕ) (p : Piece) (m : Cursor) → step c ≡ Ok (p, m) → end_from (suc n) step size c ≡ end_from n step size m
     unfolding end_from
     end_found n p m e = simp (lt-ltb c.at size inside, e)
 
-    pub end_refused : (n number : ℕ) → step c ≡ Refused number → end_from (suc n) step size c ≡ Stopped number c.at
+    pub end_refused : (n : ℕ) (refusal : Refusal) → step c ≡ Err refusal → end_from (suc n) step size c ≡ Err (stop refusal c.at)
     unfolding end_from
-    end_refused n number e = simp (lt-ltb c.at size inside, e)
+    end_refused n refusal e = simp (lt-ltb c.at size inside, e)
 
-    pub end-many : end_from zero step size c ≡ Stopped 13 c.at
+    pub end-many : end_from zero step size c ≡ Err (stop ManyPieces c.at)
     unfolding end_from
     end-many = simp (lt-ltb c.at size inside)
 
@@ -48,7 +50,7 @@ module _ (step : Cursor → Step) (size : ℕ) where
   placed_past zero c h = refl
   placed_past (suc n) c h = simp (le-ltb c.at size h)
 
-  pub end_past : (n : ℕ) (c : Cursor) → size ≤ c.at → end_from n step size c ≡ Finished
+  pub end_past : (n : ℕ) (c : Cursor) → size ≤ c.at → end_from n step size c ≡ Ok tt
   unfolding end_from
   end_past zero c h = simp (le-ltb c.at size h)
   end_past (suc n) c h = simp (le-ltb c.at size h)
@@ -61,5 +63,5 @@ module _ (step : Cursor → Step) (size : ℕ) where
       by_test (λ (ps : List Placed). length ps ≤ suc n) (ltb c.at size) _ _ (λ _. go (step c) (λ m. placed-few n m)) (λ _. omega arith)
     where
       go : (t : Step) → ((m : Cursor) → length (placed_from n step size m) ≤ n) → length (and_rest t c (λ m. placed_from n step size m)) ≤ suc n
-      go (Found p m) ih = let h = ih m in omega arith
-      go (Refused number) ih = omega arith
+      go (Ok (p, m)) ih = let h = ih m in omega arith
+      go (Err refusal) ih = omega arith

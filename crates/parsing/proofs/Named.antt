@@ -1,4 +1,7 @@
 -- The argument that an element takes, named either way, is one of those that there are, and what follows stands at or behind the place read. Assumes nothing.
+use Rattle.refusals.proofs.Parsed.{same_read}
+use mathlib.Core.Path.{subst}
+use Rattle.std.specs.Prelude.{Err, Ok, Result}
 use mathlib.Core.Path.{◌≡◌}
 use mathlib.Core.Bool.{true, false, not}
 use mathlib.Core.List.{List, [], ◌∷◌}
@@ -13,14 +16,13 @@ use Rattle.refusals.specs.Limits.{largest_number}
 use Rattle.writing.proofs.Choose.{by_test, both}
 use Rattle.numerals.specs.Digits.{number_from, number_of}
 use Rattle.specifiers.specs.Params.{is_digit, is_param, leading_digits, number_taken, number_at}
-use Rattle.specifiers.specs.declared.params.Number.{Number}
-use Rattle.specifiers.specs.declared.params.Number.TheVariants as N
 use Rattle.specifiers.proofs.Numbers.{number_grows}
 use Rattle.specifiers.specs.Specifier.{begins_with}
 use Rattle.specifiers.proofs.Bytes.{begins-inside}
 use Rattle.parsing.specs.Indexes.{among_kinds, is_index, index_of, index_at, same_index}
 use Rattle.parsing.specs.declared.arguments.Index.{Index}
-use Rattle.parsing.specs.declared.arguments.Index.TheVariants as I
+use Rattle.refusals.specs.Numbers.{Parsed}
+use Rattle.refusals.specs.declared.Refusal.{Refusal}
 
 -- digits that do not begin with 0 make a number of at least 1
 pub number_pos : (l : List ℕ) → is_param false l ≡ true → 1 ≤ number_of 10 (leading_digits l)
@@ -41,20 +43,20 @@ module _ (s : List ℕ) (at : ℕ) (e : is_index s at ≡ true) where
   index_digit = parts.0
 
   -- the place behind an index's digits is that of its `$`
-  pub index-inside : (n next : ℕ) → number_at s at ≡ N.Value n next → next < length s
+  pub index-inside : (n next : ℕ) → number_at s at ≡ Ok (n, next) → next < length s
   unfolding number_at number_taken
   index-inside n next =
-      by_test (λ (t : Number). t ≡ N.Value n next → next < length s) (leb (number_of 10 (leading_digits (drop at s))) largest_number) _ _
+      by_test (λ (t : Parsed ℕ). t ≡ Ok (n, next) → next < length s) (leb (number_of 10 (leading_digits (drop at s))) largest_number) _ _
       (λ _ q. behind q (begins-inside s (at + length (leading_digits (drop at s))) (code "$") parts.1))
       (λ _ q. absurd (let z : ◌≡◌ {A = ℕ} 0 1 = cc in omega arith))
     where
-      behind : {m i : ℕ} → N.Value m i ≡ N.Value n next → i < length s → next < length s
-      behind {m} {i} q h = let k : i ≡ next = cc in omega arith
+      behind : {m i : ℕ} → ◌≡◌ {A = Parsed ℕ} (Ok (m, i)) (Ok (n, next)) → i < length s → next < length s
+      behind {m} {i} q h = subst (λ (j : ℕ). j < length s) (same_read q).1 h
 
 -- An argument from 1 up to the number of kinds, and a place from `at` on.
-abbrev pub NamedIn : ℕ → ℕ → Index → Type 0
-NamedIn kinds at (I.Named a next count) = (1 ≤ a) × (a ≤ kinds) × (at ≤ next)
-NamedIn kinds at (I.Refused number) = Unit {0}
+abbrev pub NamedIn : ℕ → ℕ → Result Index Refusal → Type 0
+NamedIn kinds at (Ok i) = (1 ≤ i.argument) × (i.argument ≤ kinds) × (at ≤ i.next)
+NamedIn kinds at (Err refusal) = Unit {0}
 
 module _ (kinds at : ℕ) where
   within_in : (a next count : ℕ) → 1 ≤ a → at ≤ next → NamedIn kinds at (among_kinds kinds a next count)
@@ -66,7 +68,7 @@ module _ (kinds at : ℕ) where
       let d = leading_digits (drop at s) in
       by_test (NamedIn kinds at) (begins_with (code "$") (drop at s)) _ _ (λ _. tt)
       (λ _. by_test (NamedIn kinds at) (is_index s at) _ _
-      (λ e. by_test (λ (t : Number). NamedIn kinds at (index_of t kinds count)) (leb (number_of 10 d) largest_number) _ _
+      (λ e. by_test (λ (t : Parsed ℕ). NamedIn kinds at (index_of t kinds count)) (leb (number_of 10 d) largest_number) _ _
       (λ _. within_in (number_of 10 d) (at + length d + 1) count (number_pos (drop at s) (index_digit s at e)) (omega arith)) (λ _. tt))
       (λ _. within_in (count + 1) at (count + 1) (omega arith) (omega arith)))
 

@@ -1,4 +1,5 @@
 -- A piece that was found lies inside the format, and an element's argument is one of those that there are. Assumes nothing.
+use Rattle.std.specs.Prelude.{None, Option, Some, Err, Ok, Result, Bool}
 use mathlib.Core.Path.{◌≡◌, refl, ap, ◌∙◌}
 use mathlib.Core.List.{List}
 use Prim.Native.Nat.{ℕ, zero, suc, ◌+◌, ◌-◌, ◌≤◌, ◌<◌}
@@ -9,68 +10,65 @@ use lib.ListN.{length, get_or, drop}
 use borrow.Author.Tests.{ltb-true}
 use Rattle.refusals.specs.Limits.{most_pieces}
 use Rattle.writing.proofs.Choose.{by_test}
-use Rattle.kinds.specs.Kinds.{kind_in, fit_of}
-use Rattle.kinds.specs.declared.Fit.{Fit}
-use Rattle.kinds.specs.declared.Fit.TheVariants.{Fits, Unfit}
+use Rattle.kinds.specs.Kinds.{kind_in, fit_in}
 use Rattle.kinds.specs.declared.Kind.{Kind}
 use Rattle.specifiers.specs.Specifier.{begins_with, letter_at, fitted, after_letter, parts_at, after_parts, specifier_at}
-use Rattle.specifiers.specs.declared.LetterTaken.{LetterTaken}
-use Rattle.specifiers.specs.declared.LetterTaken.TheVariants as L
 use Rattle.specifiers.specs.declared.Parts.{Parts}
-use Rattle.specifiers.specs.declared.PartsTaken.{PartsTaken}
-use Rattle.specifiers.specs.declared.PartsTaken.TheVariants as P
-use Rattle.specifiers.specs.declared.Specifier.{Specifier}
-use Rattle.specifiers.specs.declared.Specifier.TheVariants as S
 use Rattle.parsing.specs.declared.arguments.Index.{Index}
-use Rattle.parsing.specs.declared.arguments.Index.TheVariants as I
 use Rattle.parsing.proofs.Named.{NamedIn}
 use Rattle.parsing.specs.Pieces.{start, argument_at, after_specifier, after_index, element_at, piece_at}
 use Rattle.parsing.specs.Listed.{Placed, and_rest, placed_from, placed}
 use Rattle.parsing.specs.Covers.{PieceIn}
 use Rattle.parsing.specs.declared.Piece.{Piece}
 use Rattle.parsing.specs.declared.Cursor.{Cursor}
-use Rattle.parsing.specs.declared.Step.{Step}
-use Rattle.parsing.specs.declared.Step.TheVariants.{Found, Refused}
 use Rattle.parsing.proofs.Indexes.{argument_in_lem}
 use Rattle.parsing.proofs.Progress.{advanced}
+use Rattle.refusals.specs.Numbers.{Parsed}
+use Rattle.parsing.specs.Pieces.{Step}
+use Rattle.refusals.specs.declared.Refusal.{Refusal}
+use Rattle.kinds.specs.declared.letters.ConversionType.{ConversionType}
+use Rattle.specifiers.specs.declared.Element.{Element}
+use Rattle.kinds.specs.declared.Form.{Form}
 
 -- The element read is that of the argument asked for, and has the form of its kind.
-abbrev Of : ℕ → Kind → Specifier → Type 0
-Of a k (S.Read e at) = (e.argument ≡ a) × (fit_of e.conversion k ≡ Fits e.form)
-Of a k (S.Refused number) = Unit {0}
+abbrev Of : ℕ → Option Kind → Parsed Element → Type 0
+Of a k (Ok (e, at)) = (e.argument ≡ a) × (fit_in e.conversion k ≡ Some e.form)
+Of a k (Err refusal) = Unit {0}
 
-module _ (s : List ℕ) (a : ℕ) (k : Kind) where
-  of_letter : (x : Parts) (t : LetterTaken) → Of a k (after_letter a k x t)
-  of_letter x (L.Read c u at) = of_fit (fit_of c k) refl
+module _ (s : List ℕ) (a : ℕ) (k : Option Kind) where
+  of_letter : (x : Parts) (t : Parsed (ConversionType × Bool)) → Of a k (after_letter a k x t)
+  of_letter x (Ok ((c, u), at)) = of_fit (fit_in c k) refl
     where
-      of_fit : (f : Fit) → fit_of c k ≡ f → Of a k (fitted a x c u at f)
-      of_fit (Fits f) q = (refl, q)
-      of_fit Unfit q = tt
-  of_letter x (L.Refused n) = tt
+      of_fit : (f : Option Form) → fit_in c k ≡ f → Of a k (fitted a x c u at f)
+      of_fit (Some f) q = (refl, q)
+      of_fit None q = tt
+  of_letter x (Err n) = tt
 
-  of_parts : (t : PartsTaken) → Of a k (after_parts s a k t)
-  of_parts (P.Read x at) = of_letter x (letter_at s at)
-  of_parts (P.Refused n) = tt
+  of_parts : (t : Parsed Parts) → Of a k (after_parts s a k t)
+  of_parts (Ok (x, at)) = of_letter x (letter_at s at)
+  of_parts (Err n) = tt
 
   specifier_of : (at : ℕ) → Of a k (specifier_at s at a k)
   unfolding specifier_at
   specifier_of at = of_parts (parts_at s at)
 
 abbrev Sound : List ℕ → List ℕ → Step → Type 0
-Sound s ks (Found p n) = n.at ≤ length s → PieceIn s ks p
-Sound s ks (Refused number) = Unit {0}
+Sound s ks (Ok (p, n)) = n.at ≤ length s → PieceIn s ks p
+Sound s ks (Err refusal) = Unit {0}
 
 module _ (s ks : List ℕ) (c : Cursor) where
-  element_sound : (x : Index) → NamedIn (length ks) (c.at + 1) x → Sound s ks (after_index s ks x)
-  element_sound (I.Named a next count) h =
-      read (specifier_at s next a (kind_in (get_or ks (a - 1) 0))) (specifier_of s a (kind_in (get_or ks (a - 1) 0)) next) h.0 h.1
+  element_sound : (x : Result Index Refusal) → NamedIn (length ks) (c.at + 1) x → Sound s ks (after_index s ks x)
+  element_sound (Ok x) h =
+      let k = kind_in (get_or ks (x.argument - 1) 0) in
+      read (specifier_at s x.next x.argument k) (specifier_of s x.argument k x.next) h.0 h.1
     where
-      read : (t : Specifier) → Of a (kind_in (get_or ks (a - 1) 0)) t → 1 ≤ a → a ≤ length ks → Sound s ks (after_specifier a count t)
-      read (S.Read e n) q l m = λ _.
-          let form = ap (λ (i : ℕ). fit_of e.conversion (kind_in (get_or ks (i - 1) 0))) q.0 ∙ q.1 in
+      read : (t : Parsed Element) → Of x.argument (kind_in (get_or ks (x.argument - 1) 0)) t → 1 ≤ x.argument → x.argument ≤ length ks
+          → Sound s ks (after_specifier x.argument x.count t)
+      read (Ok (e, n)) q l m = λ _.
+          let form = ap (λ (i : ℕ). fit_in e.conversion (kind_in (get_or ks (i - 1) 0))) q.0 ∙ q.1 in
           (omega (arith, q.0), omega (arith, q.0), form)
-      read (S.Refused n) q l m = tt
-  element_sound (I.Refused n) h = tt
+      read (Err n) q l m = tt
+  element_sound (Err n) h = tt
 
   step_sound : Sound s ks (piece_at s ks c)
   unfolding piece_at element_at
@@ -81,7 +79,7 @@ module _ (s ks : List ℕ) (c : Cursor) where
       (λ _. element_sound (argument_at s (length ks) c) (argument_in_lem s (length ks) c))))
       (λ _ h. h)
 
-  pub sound : (p : Piece) (n : Cursor) → c.at < length s → piece_at s ks c ≡ Found p n → PieceIn s ks p
+  pub sound : (p : Piece) (n : Cursor) → c.at < length s → piece_at s ks c ≡ Ok (p, n) → PieceIn s ks p
   sound p n h e = (rw e at step_sound) (advanced s ks c p n h e).inside
 
 -- So it is with every piece that is listed.
@@ -98,9 +96,9 @@ module _ (s ks : List ℕ) where
     where
       go : (t : Step) → piece_at s ks c ≡ t → c.at < length s → ((m : Cursor) → AllIn d (placed_from n (piece_at s ks) (length s) m))
           → AllIn d (and_rest t c (λ m. placed_from n (piece_at s ks) (length s) m))
-      go (Found p m) e h ih zero k = sound s ks c p m h e
-      go (Found p m) e h ih (suc i) k = ih m i (omega arith)
-      go (Refused number) e h ih i k = absurd (omega arith)
+      go (Ok (p, m)) e h ih zero k = sound s ks c p m h e
+      go (Ok (p, m)) e h ih (suc i) k = ih m i (omega arith)
+      go (Err refusal) e h ih i k = absurd (omega arith)
 
   pub all-inside : (i : ℕ) (d : Placed) → i < length (placed s ks) → PieceIn s ks (get_or (placed s ks) i d).piece
   unfolding placed

@@ -1,7 +1,6 @@
 -- What is said of the pieces of a format. (`PieceIn` is for laws alone.)
-use Rattle.std.specs.Prelude.{ℕ, ◌+◌, ◌-◌, ◌≤◌, ◌<◌, ◌≡◌, List, [], ◌∷◌, length, get_or}
-use Rattle.kinds.specs.Kinds.{kind_in, fit_of}
-use Rattle.kinds.specs.declared.Fit.TheVariants.{Fits}
+use Rattle.std.specs.Prelude.{ℕ, ◌+◌, ◌-◌, ◌≤◌, ◌<◌, ◌≡◌, List, [], ◌∷◌, length, get_or, Some}
+use Rattle.kinds.specs.Kinds.{kind_in, fit_in}
 use Rattle.parsing.specs.Listed.{Placed}
 use Rattle.parsing.specs.declared.Piece.{Piece}
 use Rattle.parsing.specs.declared.Piece.TheVariants.{Fixed, Byte, Element as AnElement}
@@ -16,4 +15,4 @@ abbrev pub PieceIn : List ℕ → List ℕ → Piece → Type 0
 PieceIn s ks (Fixed begin len) = begin + len ≤ length s
 PieceIn s ks (Byte b) = Unit {0}
 PieceIn s ks (AnElement e) =
-    (1 ≤ e.argument) × (e.argument ≤ length ks) × (fit_of e.conversion (kind_in (get_or ks (e.argument - 1) 0)) ≡ Fits e.form)
+    (1 ≤ e.argument) × (e.argument ≤ length ks) × (fit_in e.conversion (kind_in (get_or ks (e.argument - 1) 0)) ≡ Some e.form)

@@ -4,4 +4,3 @@ pub mod Pieces
 pub mod Listed
 pub mod Check
 pub mod Covers
-pub mod Refusals

@@ -3,90 +3,74 @@
 ghost use Rattle.std.specs.Prelude.{◌≡◌};
 ghost use Rattle.parsing.specs.Indexes.{is_index, among_kinds, index_at, same_index};
 
-use specifiers::params::Number;
+use refusals::Refusal;
 
 // The argument of an element: its index, the place behind it, and the running count.
-#[derive(Clone, Copy)]
-pub enum Index {
-    Named {
-        argument: usize,
-        next: usize,
-        count: usize,
-    },
-    Refused {
-        number: u8,
-    },
+#[derive(Clone, Copy, PartialEq, Eq)]
+pub struct Index {
+    pub argument: usize,
+    pub next: usize,
+    pub count: usize,
 }
 
 // Whether an index stands at a place: digits from 1 to 9 onward, and then `$`.
 fn is_index(fmt: &[u8], at: usize) -> bool
     ensures { result ≡ is_index fmt.now at }
 {
-    if at < fmt.len() {
-        if fmt[at] < b'1' {
-            return false;
-        }
-        if b'9' < fmt[at] {
-            return false;
-        }
-        return specifiers::is_byte(fmt, specifiers::params::digits_end(fmt, at), b'$');
-    }
-    false
+    at < fmt.len()
+        && matches!(fmt[at], b'1'..=b'9')
+        && specifiers::is_byte(fmt, specifiers::params::digits_end(fmt, at), b'$')
 }
 
 // An argument, if there are so many kinds.
-fn named(argument: usize, next: usize, count: usize, kinds: usize) -> Index
+fn named(argument: usize, next: usize, count: usize, kinds: usize) -> Result<Index, Refusal>
     ensures { result ≡ among_kinds kinds argument next count }
 {
     if kinds < argument {
-        return Index::Refused {
-            number: refusals::NO_SUCH_ARGUMENT,
-        };
+        return Err(Refusal::NoSuchArgument);
     }
-    Index::Named {
-        argument: argument,
-        next: next,
-        count: count,
-    }
+    Ok(Index {
+        argument,
+        next,
+        count,
+    })
 }
 
 // The argument of an element that names one by an index, or takes the next in the running count.
-pub(crate) fn take_index(fmt: &[u8], at: usize, count: usize, kinds: usize) -> Index
+#[tactic(auto, unfolding(crate::specs::Indexes::index_at))]
+pub(crate) fn take_index(
+    fmt: &[u8],
+    at: usize,
+    count: usize,
+    kinds: usize,
+) -> Result<Index, Refusal>
     ensures { result ≡ index_at fmt.now kinds at count }
 {
     if specifiers::is_byte(fmt, at, b'$') {
-        return Index::Refused {
-            number: refusals::NO_INDEX,
-        };
+        return Err(Refusal::NoIndex);
     }
     if is_index(fmt, at) {
-        let Number::Value { value, next } = specifiers::params::take_number(fmt, at) else {
-            return Index::Refused {
-                number: refusals::LARGE_NUMBER,
-            };
-        };
-        return named(value as usize, next + 1, count, kinds);
+        let (value, end) = specifiers::params::take_number(fmt, at)?;
+        return named(value as usize, end + 1, count, kinds);
     }
+    // The sum of the next line is formed only where it is at most the count of kinds.
     if kinds <= count {
-        return Index::Refused {
-            number: refusals::NO_SUCH_ARGUMENT,
-        };
+        return Err(Refusal::NoSuchArgument);
     }
-    Index::Named {
-        argument: count + 1,
-        next: at,
-        count: count + 1,
-    }
+    named(count + 1, at, count + 1, kinds)
 }
 
-// The argument of an element behind `%<`: the last one named without `<`.
-pub(crate) fn same_index(last: usize, next: usize, count: usize, kinds: usize) -> Index
+// The argument of an element behind `%<`: the last one named without `<`, 0 where there is none.
+pub(crate) fn same_index(
+    last: usize,
+    next: usize,
+    count: usize,
+    kinds: usize,
+) -> Result<Index, Refusal>
     ensures { result ≡ same_index kinds last next count }
 {
     if last == 0 {
-        return Index::Refused {
-            number: refusals::NO_ELEMENT_BEFORE,
-        };
+        return Err(Refusal::NoElementBefore);
     }
     named(last, next, count, kinds)
 }

@@ -9,10 +9,10 @@ pub mod scanning;
 ghost use Rattle.std.specs.Prelude.{◌≡◌, ◌<◌, length};
 ghost use Rattle.parsing.specs.Pieces.{start, passed, argument_at, element_at, piece_at};
 ghost use Rattle.parsing.specs.Check.{argument_of};
-ghost use Rattle.parsing.specs.Refusals.{IndexHanded, SpecifierHanded};
 
 use arguments::Index;
-use specifiers::{Element, Specifier};
+use refusals::{Refusal, Stop};
+use specifiers::Element;
 
 // A piece: part of the format as it stands, a byte that does not stand in it (`%n`), or an element.
 #[derive(Clone, Copy)]
@@ -22,7 +22,8 @@ pub enum Piece {
     Element(Element),
 }
 
-// Where reading stands: the offset, the running count, and the argument that `%<` takes (0 for none).
+// Where reading stands: the offset, the running count, and the argument that `%<` takes. This is 0 for none and no Option, since a cursor of any numbers then
+// names an argument from 1 on.
 #[derive(Clone, Copy)]
 pub struct Cursor {
     pub at: usize,
@@ -30,101 +31,55 @@ pub struct Cursor {
     pub last: usize,
 }
 
-// The piece at a cursor and the cursor behind it, or the number that refuses it; its place is the cursor's.
-#[derive(Clone, Copy)]
-pub enum Step {
-    Found { piece: Piece, next: Cursor },
-    Refused { number: u8 },
-}
+// The piece at a cursor and the cursor behind it, or what refuses it; its place is the cursor's.
+pub type Step = Result<(Piece, Cursor), Refusal>;
 
 // Where reading ends: behind the last piece, or at a refusal.
-#[derive(Clone, Copy)]
-pub enum Ended {
-    Finished,
-    Stopped { number: u8, place: usize },
-}
+pub type Ended = Result<(), Stop>;
 
-// The answer of checking.
-#[derive(Clone, Copy)]
-pub enum Checked {
-    Accepted { pieces: usize, largest: usize },
-    Refused { number: u8, place: usize },
+// What checking answers where it accepts: the number of pieces, and the largest argument index, 0 if none.
+#[derive(Clone, Copy, PartialEq, Eq)]
+pub struct Checked {
+    pub pieces: usize,
+    pub largest: usize,
 }
 
 // The argument of the element whose `%` stands at the cursor.
-fn take_argument(fmt: &[u8], c: Cursor, kinds: usize) -> Index
+#[tactic(auto, unfolding(crate::specs::Pieces::argument_at))]
+fn take_argument(fmt: &[u8], c: Cursor, kinds: usize) -> Result<Index, Refusal>
     requires { c.at < length fmt.now }
     ensures { result ≡ argument_at fmt.now kinds c }
 {
     let second = c.at + 1;
-    let count = c.count;
     if specifiers::is_byte(fmt, second, b'<') {
-        let last = c.last;
-        return arguments::same_index(last, second + 1, count, kinds);
+        return arguments::same_index(c.last, second + 1, c.count, kinds);
     }
-    arguments::take_index(fmt, second, count, kinds)
-}
-
-// A refusal handed upward. It is asked of refusals alone.
-fn index_refusal(i: Index) -> Step
-    ensures { IndexHanded i result }
-{
-    let Index::Refused { number } = i else {
-        return Step::Refused {
-            number: refusals::NO_INDEX,
-        };
-    };
-    Step::Refused { number: number }
-}
-
-fn specifier_refusal(read: Specifier) -> Step
-    ensures { SpecifierHanded read result }
-{
-    let Specifier::Refused { number } = read else {
-        return Step::Refused {
-            number: refusals::NO_INDEX,
-        };
-    };
-    Step::Refused { number: number }
+    arguments::take_index(fmt, second, c.count, kinds)
 }
 
 // The element whose `%` stands at the cursor.
+#[tactic(auto, unfolding(crate::specs::Pieces::element_at))]
 fn take_element(fmt: &[u8], kinds: &[u8], c: Cursor) -> Step
     requires { c.at < length fmt.now }
     ensures { result ≡ element_at fmt.now kinds.now c }
 {
-    let index = take_argument(fmt, c, kinds.len());
-    let Index::Named {
-        argument,
-        next,
-        count,
-    } = index
-    else {
-        return index_refusal(index);
+    let index = take_argument(fmt, c, kinds.len())?;
+    let argument = index.argument;
+    let byte = kinds[argument - 1];
+    let (element, at) = specifiers::take_conversion_specifier(fmt, index.next, argument, byte)?;
+    let next = Cursor {
+        at,
+        count: index.count,
+        last: argument,
     };
-    let read = specifiers::take_conversion_specifier(fmt, next, argument, kinds[argument - 1]);
-    let Specifier::Read { element, next: end } = read else {
-        return specifier_refusal(read);
-    };
-    Step::Found {
-        piece: Piece::Element(element),
-        next: Cursor {
-            at: end,
-            count: count,
-            last: argument,
-        },
-    }
+    Ok((Piece::Element(element), next))
 }
 
 // The cursor behind a piece that uses no argument.
 fn passed_by(c: Cursor, at: usize) -> Cursor
     ensures { result ≡ passed c at }
 {
-    Cursor {
-        at: at,
-        count: c.count,
-        last: c.last,
-    }
+    Cursor { at, ..c }
 }
 
 // The next piece from a cursor on: behind the format's end, an empty one.
@@ -133,33 +88,22 @@ pub fn next_piece(fmt: &[u8], kinds: &[u8], c: Cursor) -> Step
 {
     let at = c.at;
     if fmt.len() <= at {
-        return Step::Found {
-            piece: Piece::Fixed { start: at, len: 0 },
-            next: passed_by(c, at),
-        };
+        return Ok((Piece::Fixed { start: at, len: 0 }, passed_by(c, at)));
     }
     let second = at + 1;
     if fmt[at] != b'%' {
-        let n = scanning::text_len(&fmt[at..]);
-        return Step::Found {
-            piece: Piece::Fixed { start: at, len: n },
-            next: passed_by(c, at + n),
-        };
+        let len = scanning::text_len(&fmt[at..]);
+        return Ok((Piece::Fixed { start: at, len }, passed_by(c, at + len)));
     }
     if specifiers::is_byte(fmt, second, b'%') {
-        return Step::Found {
-            piece: Piece::Fixed {
-                start: second,
-                len: 1,
-            },
-            next: passed_by(c, at + 2),
+        let percent = Piece::Fixed {
+            start: second,
+            len: 1,
         };
+        return Ok((percent, passed_by(c, at + 2)));
     }
     if specifiers::is_byte(fmt, second, b'n') {
-        return Step::Found {
-            piece: Piece::Byte(b'\n'),
-            next: passed_by(c, at + 2),
-        };
+        return Ok((Piece::Byte(b'\n'), passed_by(c, at + 2)));
     }
     take_element(fmt, kinds, c)
 }
@@ -169,9 +113,8 @@ pub fn argument_of(piece: Piece) -> usize
     ensures { result ≡ argument_of piece }
 {
     match piece {
-        Piece::Fixed { start: _, len: _ } => 0,
-        Piece::Byte(_) => 0,
         Piece::Element(e) => e.argument,
+        _ => 0,
     }
 }
 

@@ -1,4 +1,5 @@
 -- A text behind those that stand at a slice's start already: what a writer leaves that was lent the rest of the slice. Assumes nothing.
+use Rattle.std.specs.Prelude.{Err, Ok}
 use mathlib.Core.Path.{◌≡◌, refl, sym, ap, ◌∙◌}
 use mathlib.Core.List.{List, [], ◌∷◌, ◌++◌}
 use Prim.Native.Nat.{ℕ, ◌+◌, ◌-◌, ◌≤◌}
@@ -13,8 +14,7 @@ use Rattle.writing.specs.Writers.{laid_if_room}
 use Rattle.writing.proofs.Choose.{by_test}
 use Rattle.writing.proofs.Laid.{laid_none, laid-room, laid_next, lent_back}
 use Rattle.printing.specs.Tallies.{behind, laid_behind}
-use Rattle.printing.specs.declared.tallies.Tally.{Tally}
-use Rattle.printing.specs.declared.tallies.Tally.TheVariants.{Length, Stops}
+use Rattle.printing.specs.Tallies.{Tally}
 
 -- its own first bytes
 pub laid_self : (d : List ℕ) (n : ℕ) → n ≤ length d → laid d (take n d) ≡ d
@@ -60,11 +60,11 @@ module _ (d t Y : List ℕ) (from : ℕ) (q : Y ≡ laid_if_room (mid_of from (l
 
   -- behind what was added up
   pub put_behind : (x : Tally) → from ≡ behind x (length d) → put_mid from (length d - from) d Y ≡ laid_behind x d t
-  put_behind (Length n) e =
+  put_behind (Ok n) e =
       by_test (λ (l : List ℕ). put_mid from (length d - from) d Y ≡ l) (leb (n + length t) (length d)) _ _
       (λ b.
       let h = leb-true (n + length t) (length d) b in
       let f : from ≡ n = omega arith in
       put_room (omega arith) ∙ ap (λ (m : ℕ). laid d (take m d ++ t)) f)
       (λ b. let h = leb-false (n + length t) (length d) b in put_none (λ k. omega arith))
-  put_behind (Stops number place) e = put_none (λ k. omega arith)
+  put_behind (Err t) e = put_none (λ k. omega arith)

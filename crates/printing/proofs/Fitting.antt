@@ -1,4 +1,5 @@
 -- Texts over the start of a list as far as they have room, and their ends in 32 bits: all of them, and one more. Assumes nothing.
+use Rattle.std.specs.Prelude.{Ok}
 use mathlib.Core.Path.{◌≡◌, refl, sym, ap, ◌∙◌}
 use mathlib.Core.Bool.{Bool, true, false}
 use mathlib.Core.List.{List, [], ◌∷◌, ◌++◌, map, map-append, append-nil}
@@ -17,7 +18,6 @@ use Rattle.writing.proofs.Laid.{laid_none, laid_more}
 use Rattle.outcomes.specs.Printed.{joined, ends_from}
 use Rattle.outcomes.proofs.Joined.{joined-one, ends_one, ends_length}
 use Rattle.printing.specs.Tallies.{fitting, low_ends, laid_texts, laid_ends, laid_behind}
-use Rattle.printing.specs.declared.tallies.Tally.TheVariants.{Length}
 use Rattle.printing.proofs.Behind.{laid_self, laid-behind}
 
 -- with room for all, and without room for one more
@@ -48,7 +48,7 @@ unfolding fitting
 texts-none d = sym (laid_none d)
 
 module _ (ts : List (List ℕ)) (d D : List ℕ) (h : D ≡ laid_texts ts d) (long : length D ≡ length d) where
-  pub text-behind : (t : List ℕ) → laid_behind (Length (length (joined ts))) D t ≡ laid_texts (ts ++ (t ∷ [])) d
+  pub text-behind : (t : List ℕ) → laid_behind (Ok (length (joined ts))) D t ≡ laid_texts (ts ++ (t ∷ [])) d
   text-behind t =
       by_test (λ (l : List ℕ). l ≡ laid_texts (ts ++ (t ∷ [])) d) (leb (length (joined ts) + length t) (length D)) _ _
       (λ b.
@@ -62,7 +62,7 @@ module _ (ts : List (List ℕ)) (d D : List ℕ) (h : D ≡ laid_texts ts d) (lo
       h ∙ ap (laid d) (sym (fitting_over (length d) ts t (omega arith))))
 
 -- an empty text leaves what was there
-pub empty_behind : (n : ℕ) (d : List ℕ) → laid_behind (Length n) d [] ≡ d
+pub empty_behind : (n : ℕ) (d : List ℕ) → laid_behind (Ok n) d [] ≡ d
 empty_behind n d =
     by_test (λ (l : List ℕ). l ≡ d) (leb (n + 0) (length d)) _ _
     (λ b.

@@ -1,4 +1,5 @@
 -- A pass over the pieces: what holds behind k of them, and what is left behind all. Assumes nothing.
+use Rattle.std.specs.Prelude.{Err, Ok}
 use mathlib.Core.Path.{◌≡◌, refl, sym, ap, subst, ◌∙◌}
 use mathlib.Core.Bool.{Bool, true, false}
 use mathlib.Core.List.{List, [], ◌∷◌, ◌++◌}
@@ -15,20 +16,18 @@ use Rattle.parsing.specs.Covers.{PieceIn}
 use Rattle.parsing.specs.Listed.{Placed, placed, ended}
 use Rattle.parsing.specs.declared.Piece.{Piece}
 use Rattle.parsing.specs.declared.Cursor.{Cursor}
-use Rattle.parsing.specs.declared.Ended.{Ended}
-use Rattle.parsing.specs.declared.Step.TheVariants.{Found}
 use Rattle.parsing.proofs.Cover.{largest-one}
 use Rattle.parsing.proofs.Sound.{sound}
 use Rattle.elements.specs.PieceTexts.{piece_text}
 use Rattle.elements.specs.Ready.{Ready}
 use Rattle.printing.specs.Tallies.{counted, tallied, with_end, laid_behind, shown_texts, laid_texts, laid_ends, TallyBelow}
 use Rattle.printing.specs.Passes.{walk_texts, pass_tally, Passed, Walk}
-use Rattle.printing.specs.declared.tallies.Tally.{Tally}
-use Rattle.printing.specs.declared.tallies.Tally.TheVariants.{Length, Stops}
 use Rattle.printing.proofs.Reached.{Reached, reached_start, next-inside, taken_next, reached_next}
 use Rattle.printing.proofs.Counts.{tallied-one}
 use Rattle.printing.proofs.Fitting.{texts-none, ends_none}
 use Rattle.printing.proofs.Next.{bytes_next, slots_next}
+use Rattle.parsing.specs.Listed.{Ended}
+use Rattle.printing.specs.Tallies.{Tally}
 
 -- The texts of pieces, in a pass that prints; none in one that only reads.
 abbrev pass_texts : Bool → List ℕ → List ℕ → List Placed → List (List ℕ)
@@ -46,7 +45,7 @@ pub record Laying (s row ks : List ℕ) (prints : Bool) (d e : List ℕ) (k : �
   pub as_many : length ends ≡ length e
 
 -- a piece that is found can be printed
-pub piece_ready : {s row ks : List ℕ} {n : Cursor} {p : Piece} → Passed s row ks → (c : Cursor) → c.at < length s → piece_at s ks c ≡ Found p n
+pub piece_ready : {s row ks : List ℕ} {n : Cursor} {p : Piece} → Passed s row ks → (c : Cursor) → c.at < length s → piece_at s ks c ≡ Ok (p, n)
     → Ready s row p
 piece_ready {s} {row} {ks} {n} {p} passed c h f = record {
   short = passed.short;
@@ -55,17 +54,17 @@ piece_ready {s} {row} {ks} {n} {p} passed c h f = record {
 }
 
 below_more : (k : ℕ) (t : Tally) → TallyBelow k t → TallyBelow (k + 1) t
-below_more k (Length n) h = omega arith
-below_more k (Stops number place) h = tt
+below_more k (Ok n) h = omega arith
+below_more k (Err t) h = tt
 
 module _ {s row ks : List ℕ} {prints : Bool} {d e : List ℕ} where
-  pub laying_start : {c : Cursor} → c ≡ start → Laying s row ks prints d e 0 c (Length 0) 0 d e
+  pub laying_start : {c : Cursor} → c ≡ start → Laying s row ks prints d e 0 c (Ok 0) 0 d e
   unfolding shown_texts tallied largest_of
   laying_start q = record {
     reached = reached_start q;
     largest = refl;
     below = omega arith;
-    tally = by_test (λ (x : Tally). Length 0 ≡ x) prints _ _ (λ _. refl) (λ _. refl);
+    tally = by_test (λ (x : Tally). Ok 0 ≡ x) prints _ _ (λ _. refl) (λ _. refl);
     bytes = by_test (λ (ts : List (List ℕ)). d ≡ laid_texts ts d) prints _ _ (λ _. texts-none d) (λ _. texts-none d);
     slots = by_test (λ (ts : List (List ℕ)). e ≡ laid_ends ts e) prints _ _ (λ _. ends_none e) (λ _. ends_none e);
     as_long = refl;
@@ -79,7 +78,7 @@ module _ {s row ks : List ℕ} {prints : Bool} {d e : List ℕ} where
 
   module _ {k : ℕ} {c : Cursor} {t : Tally} {m : ℕ} {out ends : List ℕ} (w : Laying s row ks prints d e k c t m out ends) where
     -- one piece more
-    module _ (inside : c.at < length s) (room : k < most_pieces) {p : Piece} {n : Cursor} (f : piece_at s ks c ≡ Found p n) where
+    module _ (inside : c.at < length s) (room : k < most_pieces) {p : Piece} {n : Cursor} (f : piece_at s ks c ≡ Ok (p, n)) where
       one : Placed
       one = record { piece = p; from = c.at; to = n.at }
 
@@ -97,7 +96,7 @@ module _ {s row ks : List ℕ} {prints : Bool} {d e : List ℕ} where
       -- that is only read
       pub laying_read : prints ≡ false → Laying s row ks prints d e (k + 1) n t (max m (argument_of p)) out ends
       laying_read off =
-          let zero : (ps : List Placed) → pass_tally prints s row ps ≡ Length 0 = λ ps. ap (λ (b : Bool). pass_tally b s row ps) off in
+          let zero : (ps : List Placed) → pass_tally prints s row ps ≡ Ok 0 = λ ps. ap (λ (b : Bool). pass_tally b s row ps) off in
           let none : (ps : List Placed) → pass_texts prints s row ps ≡ [] = λ ps. ap (λ (b : Bool). pass_texts b s row ps) off in
           let same = none (take k (placed s ks)) ∙ sym (none (take (k + 1) (placed s ks))) in
           record {
@@ -117,7 +116,7 @@ module _ {s row ks : List ℕ} {prints : Bool} {d e : List ℕ} where
         shown : (ps : List Placed) → pass_texts prints s row ps ≡ shown_texts s row ps
         shown ps = ap (λ (b : Bool). pass_texts b s row ps) on
 
-        added_up : (ps : List Placed) → pass_tally prints s row ps ≡ tallied s row (Length 0) ps
+        added_up : (ps : List Placed) → pass_tally prints s row ps ≡ tallied s row (Ok 0) ps
         added_up ps = ap (λ (b : Bool). pass_tally b s row ps) on
 
         pub laying_printed : length out' ≡ length out → length ends' ≡ length ends
@@ -136,7 +135,7 @@ module _ {s row ks : List ℕ} {prints : Bool} {d e : List ℕ} where
               below = below;
               tally =
                   counts ∙ ap (counted s row p c.at) total
-                  ∙ sym (added_up (take (k + 1) (placed s ks)) ∙ ap (tallied s row (Length 0)) taken ∙ tallied-one s row (Length 0) before one);
+                  ∙ sym (added_up (take (k + 1) (placed s ks)) ∙ ap (tallied s row (Ok 0)) taken ∙ tallied-one s row (Ok 0) before one);
               bytes = b ∙ ap (λ (ts : List (List ℕ)). laid_texts ts d) texts;
               slots = z ∙ ap (λ (ts : List (List ℕ)). laid_ends ts e) texts;
               as_long = long ∙ w.as_long;

@@ -7,3 +7,4 @@ pub mod Shown
 pub mod Next
 mod Outcomes
 pub mod Staged
+mod Formats

@@ -1,34 +1,34 @@
 -- One piece more of a pass that prints: its text behind the texts so far, and its end behind their ends. Assumes nothing.
+use Rattle.std.specs.Prelude.{Option, None, Some, Ok}
 use mathlib.Core.Path.{◌≡◌, refl, sym, ap, ◌∙◌}
 use mathlib.Core.List.{List, [], ◌∷◌, ◌++◌, append-nil}
-use mathlib.Core.Option.{Option, none, some}
 use Prim.Native.Nat.{ℕ}
 use lib.ListN.{length}
 use Rattle.parsing.specs.Listed.{Placed}
 use Rattle.elements.specs.Texts.{Shown, Text, Stops, text_of}
 use Rattle.elements.specs.Sizes.{size_of}
 use Rattle.elements.specs.PieceTexts.{shown_piece, piece_text}
-use Rattle.outcomes.specs.Printed.{texts_of, joined, Stop, first_stop}
+use Rattle.outcomes.specs.Printed.{texts_of, joined, first_stop}
 use Rattle.outcomes.proofs.Texts.{texts-length}
 use Rattle.printing.specs.Tallies.{added, counted, tallied, with_end, laid_behind, shown_texts, laid_texts, laid_ends}
-use Rattle.printing.specs.declared.tallies.Tally.{Tally}
-use Rattle.printing.specs.declared.tallies.Tally.TheVariants as T
 use Rattle.printing.proofs.Shown.{next_text, shown-one, shown-all}
 use Rattle.printing.proofs.Counts.{unless_stop, tally-is}
 use Rattle.printing.proofs.Fitting.{text-behind, empty_behind, end-behind}
+use Rattle.refusals.specs.declared.Stop.{Stop}
+use Rattle.printing.specs.Tallies.{Tally}
 
 -- what was added up over pieces is the length of their texts, unless one of them is not printed
-tally-shown : (s row : List ℕ) (ps : List Placed) → tallied s row (T.Length 0) ps ≡ unless_stop (first_stop s row ps) (length (joined (shown_texts s row ps)))
+tally-shown : (s row : List ℕ) (ps : List Placed) → tallied s row (Ok 0) ps ≡ unless_stop (first_stop s row ps) (length (joined (shown_texts s row ps)))
 tally-shown s row ps = tally-is s row ps ∙ go (first_stop s row ps) refl
   where
     go : (y : Option Stop) → first_stop s row ps ≡ y
         → unless_stop y (length (joined (texts_of s row ps))) ≡ unless_stop y (length (joined (shown_texts s row ps)))
-    go none q = ap (λ (ts : List (List ℕ)). T.Length (length (joined ts))) (sym (shown-all s row ps q))
-    go (some t) q = refl
+    go None q = ap (λ (ts : List (List ℕ)). Ok (length (joined ts))) (sym (shown-all s row ps q))
+    go (Some t) q = refl
 
 -- the texts ts of pieces, one piece more, and what was added up before it
 module _ (s row : List ℕ) (ps : List Placed) (p : Placed) (ts : List (List ℕ)) (is : ts ≡ shown_texts s row ps) {t : Tally}
-    (total : t ≡ tallied s row (T.Length 0) ps) where
+    (total : t ≡ tallied s row (Ok 0) ps) where
   found : t ≡ unless_stop (first_stop s row ps) (length (joined ts))
   found = total ∙ tally-shown s row ps ∙ ap (λ (l : List (List ℕ)). unless_stop (first_stop s row ps) (length (joined l))) (sym is)
 
@@ -41,9 +41,9 @@ module _ (s row : List ℕ) (ps : List Placed) (p : Placed) (ts : List (List ℕ
     same_bytes = bytes ∙ ap (λ (l : List (List ℕ)). laid_texts l d) (sym (append-nil ts))
 
     bytes_by : (y : Option Stop) (x : Shown) → laid_behind (unless_stop y (length (joined ts))) D (text_of x) ≡ laid_texts (ts ++ next_text y x) d
-    bytes_by none (Text u) = text-behind ts d D bytes long u
-    bytes_by none (Stops number) = empty_behind (length (joined ts)) D ∙ same_bytes
-    bytes_by (some y) x = same_bytes
+    bytes_by None (Text u) = text-behind ts d D bytes long u
+    bytes_by None (Stops refusal) = empty_behind (length (joined ts)) D ∙ same_bytes
+    bytes_by (Some y) x = same_bytes
 
     pub bytes_next : {out : List ℕ} → out ≡ laid_behind t D (piece_text s row p.piece) → out ≡ laid_texts (shown_texts s row (ps ++ (p ∷ []))) d
     bytes_next h =
@@ -58,9 +58,9 @@ module _ (s row : List ℕ) (ps : List Placed) (p : Placed) (ts : List (List ℕ
 
     slots_by : (y : Option Stop) → first_stop s row ps ≡ y → (x : Shown)
         → with_end k (added p.from (size_of x) (unless_stop y (length (joined ts)))) E ≡ laid_ends (ts ++ next_text y x) e
-    slots_by none q (Text u) = end-behind ts u e E k (ap length (is ∙ shown-all s row ps q) ∙ texts-length s row ps ∙ count) many slots
-    slots_by none q (Stops number) = same-slots
-    slots_by (some y) q x = same-slots
+    slots_by None q (Text u) = end-behind ts u e E k (ap length (is ∙ shown-all s row ps q) ∙ texts-length s row ps ∙ count) many slots
+    slots_by None q (Stops refusal) = same-slots
+    slots_by (Some y) q x = same-slots
 
     pub slots_next : {r : Tally} {ends : List ℕ} → r ≡ counted s row p.piece p.from t → ends ≡ with_end k r E
         → ends ≡ laid_ends (shown_texts s row (ps ++ (p ∷ []))) e

@@ -1,4 +1,5 @@
 -- What a pass answers is what checking and measuring promise. Assumes nothing.
+use Rattle.std.specs.Prelude.{Err, Ok}
 use mathlib.Core.Path.{◌≡◌, refl}
 use mathlib.Core.Bool.{Bool, true}
 use mathlib.Core.List.{List}
@@ -6,26 +7,24 @@ use Prim.Native.Nat.{ℕ}
 use lib.ListN.{length}
 use Rattle.parsing.specs.Check.{largest_of, checked_end}
 use Rattle.parsing.specs.Listed.{Placed, placed, ended}
-use Rattle.parsing.specs.declared.Ended.{Ended}
-use Rattle.parsing.specs.declared.Ended.TheVariants.{Finished, Stopped}
 use Rattle.rows.specs.Row.{kinds_of}
 use Rattle.outcomes.specs.Printed.{texts, printed_text, measured_end}
 use Rattle.printing.specs.Tallies.{tallied, outcome_of}
 use Rattle.printing.specs.Passes.{checked_of, checked_by, Walk}
-use Rattle.printing.specs.declared.tallies.Tally.TheVariants.{Length}
 use Rattle.printing.specs.declared.passes.Walked.{Walked}
 use Rattle.printing.proofs.Counts.{tally-end}
+use Rattle.parsing.specs.Listed.{Ended}
 
 -- by where reading ended
 checked_by_lem : (x : Ended) (ps : List Placed) → checked_of x (length ps) (largest_of ps) ≡ checked_end x ps
-checked_by_lem Finished ps = refl
-checked_by_lem (Stopped number place) ps = refl
+checked_by_lem (Ok end) ps = refl
+checked_by_lem (Err t) ps = refl
 
 measured_by : (s row : List ℕ) (x : Ended) → let ps = placed s (kinds_of row) in
-    outcome_of x (tallied s row (Length 0) ps) (length ps) ≡ measured_end s row x
+    outcome_of x (tallied s row (Ok 0) ps) (length ps) ≡ measured_end s row x
 unfolding measured_end printed_text texts
-measured_by s row Finished = tally-end s row (placed s (kinds_of row)) (length (placed s (kinds_of row)))
-measured_by s row (Stopped number place) = refl
+measured_by s row (Ok end) = tally-end s row (placed s (kinds_of row)) (length (placed s (kinds_of row)))
+measured_by s row (Err t) = refl
 
 module _ (s row ks : List ℕ) (w : Walked) where
   pub walk_checked : (prints : Bool) → Walk s row ks prints w → checked_by w ≡ checked_end (ended s ks) (placed s ks)

@@ -1,4 +1,5 @@
 -- Where reading stands behind k pieces of a format: what is left of its pieces, and where it ends. Assumes nothing.
+use Rattle.std.specs.Prelude.{Err, Ok}
 use mathlib.Core.Path.{◌≡◌, refl, sym, ap, ◌∙◌}
 use mathlib.Core.List.{List, [], ◌∷◌, ◌++◌}
 use Prim.Native.Nat.{ℕ, suc, ◌+◌, ◌-◌, ◌≤◌, ◌<◌}
@@ -9,10 +10,11 @@ use Rattle.parsing.specs.Pieces.{start, piece_at}
 use Rattle.parsing.specs.Listed.{placed_from, placed, end_from, ended}
 use Rattle.parsing.specs.declared.Piece.{Piece}
 use Rattle.parsing.specs.declared.Cursor.{Cursor}
-use Rattle.parsing.specs.declared.Step.TheVariants.{Found, Refused}
-use Rattle.parsing.specs.declared.Ended.TheVariants.{Finished, Stopped}
 use Rattle.parsing.proofs.Iteration.{placed_found, placed-refused, placed-none, placed_past, end_found, end_refused, end-many, end_past}
 use Rattle.outcomes.proofs.Joined.{next-below, next_rest, next_taken, none_left}
+use Rattle.refusals.specs.Numbers.{stop}
+use Rattle.refusals.specs.declared.Refusal.{Refusal}
+use Rattle.refusals.specs.declared.Refusal.TheVariants.{ManyPieces}
 
 pub record Reached (s ks : List ℕ) (k : ℕ) (c : Cursor) : Type 0 where
   few : k ≤ most_pieces
@@ -28,7 +30,7 @@ module _ {s ks : List ℕ} {k : ℕ} {c : Cursor} (at : Reached s ks k c) where
   -- a piece begins
   module _ (inside : c.at < length s) where
     -- and is one too many
-    pub reached_full : most_pieces ≤ k → (ended s ks ≡ Stopped 13 c.at) × (take k (placed s ks) ≡ placed s ks)
+    pub reached_full : most_pieces ≤ k → (ended s ks ≡ Err (stop ManyPieces c.at)) × (take k (placed s ks) ≡ placed s ks)
     reached_full h =
         let z : most_pieces - k ≡ 0 = omega arith in
         let none = at.rest ∙ ap (λ (n : ℕ). placed_from n (piece_at s ks) (length s) c) z ∙ placed-none (piece_at s ks) (length s) c in (
@@ -46,13 +48,13 @@ module _ {s ks : List ℕ} {k : ℕ} {c : Cursor} (at : Reached s ks k c) where
       rest_left : drop k (placed s ks) ≡ placed_from (suc (most_pieces - (k + 1))) (piece_at s ks) (length s) c
       rest_left = at.rest ∙ ap (λ (m : ℕ). placed_from m (piece_at s ks) (length s) c) left
 
-      pub reached_refused : {number : ℕ} → piece_at s ks c ≡ Refused number → (ended s ks ≡ Stopped number c.at) × (take k (placed s ks) ≡ placed s ks)
-      reached_refused {number} e = (
-        sym end_left ∙ end_refused (piece_at s ks) (length s) c inside (most_pieces - (k + 1)) number e,
-        none_left k (placed s ks) (rest_left ∙ placed-refused (piece_at s ks) (length s) c inside (most_pieces - (k + 1)) number e),
+      pub reached_refused : {refusal : Refusal} → piece_at s ks c ≡ Err refusal → (ended s ks ≡ Err (stop refusal c.at)) × (take k (placed s ks) ≡ placed s ks)
+      reached_refused {refusal} e = (
+        sym end_left ∙ end_refused (piece_at s ks) (length s) c inside (most_pieces - (k + 1)) refusal e,
+        none_left k (placed s ks) (rest_left ∙ placed-refused (piece_at s ks) (length s) c inside (most_pieces - (k + 1)) refusal e),
       )
 
-      module _ {p : Piece} {n : Cursor} (e : piece_at s ks c ≡ Found p n) where
+      module _ {p : Piece} {n : Cursor} (e : piece_at s ks c ≡ Ok (p, n)) where
         next-piece : drop k (placed s ks)
             ≡ record { piece = p; from = c.at; to = n.at } ∷ placed_from (most_pieces - (k + 1)) (piece_at s ks) (length s) n
         next-piece = rest_left ∙ placed_found (piece_at s ks) (length s) c inside (most_pieces - (k + 1)) p n e
@@ -75,7 +77,7 @@ module _ {s ks : List ℕ} {k : ℕ} {c : Cursor} (at : Reached s ks k c) where
         }
 
   -- behind the format's last byte
-  pub reached_end : length s ≤ c.at → (ended s ks ≡ Finished) × (take k (placed s ks) ≡ placed s ks)
+  pub reached_end : length s ≤ c.at → (ended s ks ≡ Ok tt) × (take k (placed s ks) ≡ placed s ks)
   reached_end behind = (
     sym at.end ∙ end_past (piece_at s ks) (length s) (most_pieces - k) c behind,
     none_left k (placed s ks) (at.rest ∙ placed_past (piece_at s ks) (length s) (most_pieces - k) c behind),

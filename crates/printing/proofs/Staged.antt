@@ -1,7 +1,7 @@
 -- What `stage` leaves of an accepted format and row: the text, where it has room, and, whether it has or not, its ends, where these do. Assumes nothing.
+use Rattle.std.specs.Prelude.{Option, None, Some, Err, Ok}
 use mathlib.Core.Path.{◌≡◌, refl, sym, ap, subst, ◌∙◌}
 use mathlib.Core.List.{List, []}
-use mathlib.Core.Option.{Option, none, some}
 use Prim.Native.Nat.{ℕ, ◌≤◌}
 use native.Mathlib.Omega.{arith}
 use lib.Dec.{ltb}
@@ -12,22 +12,22 @@ use Rattle.writing.specs.Laid.{laid}
 use Rattle.writing.proofs.Choose.{by_test}
 use Rattle.utf8.specs.Utf8.{well_formed}
 use Rattle.parsing.specs.Listed.{placed, ended}
-use Rattle.parsing.specs.declared.Ended.{Ended}
-use Rattle.parsing.specs.declared.Ended.TheVariants.{Finished, Stopped}
 use Rattle.rows.specs.Row.{kinds_of, is_row}
-use Rattle.outcomes.specs.Printed.{texts, printed_text, ends_from, Stop, first_stop, unless_stopped, measured_end, measured}
-use Rattle.outcomes.specs.declared.Outcome.{Outcome}
-use Rattle.outcomes.specs.declared.Outcome.TheVariants.{Accepted, Refused}
+use Rattle.outcomes.specs.Printed.{texts, printed_text, ends_from, first_stop, unless_stopped, measured_end, measured}
 use Rattle.outcomes.proofs.Texts.{texts-length}
 use Rattle.printing.specs.Tallies.{shown_texts, laid_texts, laid_ends}
 use Rattle.printing.specs.Stages.{staged_texts, Staged}
 use Rattle.printing.proofs.Fitting.{texts-none, ends_none, fitting-all, ends_all}
 use Rattle.printing.proofs.Shown.{shown-all}
+use Rattle.parsing.specs.Listed.{Ended}
+use Rattle.outcomes.specs.Printed.{Outcome}
+use Rattle.refusals.specs.declared.Stop.{Stop}
+use Rattle.outcomes.specs.declared.Measured.{Measured}
 
 -- That an accepted call comes to all texts.
 abbrev Whole : List ℕ → List ℕ → List (List ℕ) → Outcome → Type 0
-Whole s row ts (Accepted n k) = ts ≡ texts s row
-Whole s row ts (Refused number place) = Unit {0}
+Whole s row ts (Ok m) = ts ≡ texts s row
+Whole s row ts (Err t) = Unit {0}
 
 -- what a call leaves, by the texts that it comes to; none leave what was there
 pub staged_by : (s row d e : List ℕ) (ts : List (List ℕ)) {out ends : List ℕ} → ts ≡ staged_texts s row → out ≡ laid_texts ts d → ends ≡ laid_ends ts e
@@ -41,14 +41,14 @@ staged_none s row d e q = staged_by s row d e [] (sym q) (texts-none d) (ends_no
 module _ (s row : List ℕ) where
   whole-end : (x : Ended) → Whole s row (shown_texts s row (placed s (kinds_of row))) (measured_end s row x)
   unfolding measured_end texts
-  whole-end Finished = go (first_stop s row (placed s (kinds_of row))) refl
+  whole-end (Ok end) = go (first_stop s row (placed s (kinds_of row))) refl
     where
       go : (x : Option Stop) → first_stop s row (placed s (kinds_of row)) ≡ x
           → Whole s row (shown_texts s row (placed s (kinds_of row)))
-          (unless_stopped x (Accepted (length (printed_text s row)) (length (placed s (kinds_of row)))))
-      go none q = shown-all s row (placed s (kinds_of row)) q
-      go (some t) q = tt
-  whole-end (Stopped number place) = tt
+          (unless_stopped x (Ok (record { length = length (printed_text s row); pieces = length (placed s (kinds_of row)) })))
+      go None q = shown-all s row (placed s (kinds_of row)) q
+      go (Some t) q = tt
+  whole-end (Err t) = tt
 
   whole : Whole s row (staged_texts s row) (measured s row)
   unfolding measured staged_texts
@@ -58,7 +58,7 @@ module _ (s row : List ℕ) where
       (λ b. by_test (Whole s row (staged_texts s row)) (is_row row) _ _
       (λ c. simp (le-leb (length s) most_format (ltb-false most_format (length s) a), b, c) (whole-end (ended s (kinds_of row)))) (λ _. tt)) (λ _. tt))
 
-  module _ {n k : ℕ} (a : measured s row ≡ Accepted n k) {d e out ends : List ℕ} (w : Staged s row d e out ends) where
+  module _ {m : Measured} (a : measured s row ≡ Ok m) {d e out ends : List ℕ} (w : Staged s row d e out ends) where
     pub all-texts : staged_texts s row ≡ texts s row
     all-texts = subst (Whole s row (staged_texts s row)) a whole
 

@@ -1,34 +1,25 @@
 -- What one pass over the pieces answers and leaves, and what checking makes of it: for the contracts of the steps of this crate. Nothing in
 -- the promises of checking, measuring and printing speaks of these.
-use Rattle.std.specs.Prelude.{ℕ, ◌≤◌, ◌≡◌, Bool, true, false, List, [], length}
+use Rattle.std.specs.Prelude.{ℕ, ◌≤◌, ◌≡◌, Bool, true, false, List, [], length, Err, Ok, Result}
 use Rattle.refusals.specs.Limits.{most_format}
 use Rattle.writing.specs.Choose.{choose}
 use Rattle.parsing.specs.Listed.{Placed, placed, ended}
 use Rattle.parsing.specs.Check.{largest_of}
-use Rattle.parsing.specs.declared.Step.{Step}
-use Rattle.parsing.specs.declared.Step.TheVariants as P
 use Rattle.parsing.specs.declared.Checked.{Checked}
-use Rattle.parsing.specs.declared.Checked.TheVariants as C
-use Rattle.parsing.specs.declared.Ended.{Ended}
-use Rattle.parsing.specs.declared.Ended.TheVariants.{Finished, Stopped}
 use Rattle.rows.specs.Row.{kinds_of, is_row}
-use Rattle.printing.specs.declared.tallies.Tally.{Tally}
-use Rattle.printing.specs.declared.tallies.Tally.TheVariants.{Length}
 use Rattle.printing.specs.declared.passes.Walked.{Walked}
 use Rattle.printing.specs.Tallies.{tallied, shown_texts}
+use Rattle.parsing.specs.Listed.{Ended}
+use Rattle.refusals.specs.declared.Stop.{Stop}
+use Rattle.printing.specs.Tallies.{Tally}
 
 -- What checking answers after a pass that only read.
-abbrev pub checked_of : Ended → ℕ → ℕ → Checked
-checked_of Finished k largest = C.Accepted k largest
-checked_of (Stopped number place) k largest = C.Refused number place
+abbrev pub checked_of : Ended → ℕ → ℕ → Result Checked Stop
+checked_of (Ok end) k largest = Ok (record { pieces = k; largest = largest })
+checked_of (Err t) k largest = Err t
 
-abbrev pub checked_by : Walked → Checked
+abbrev pub checked_by : Walked → Result Checked Stop
 checked_by w = checked_of w.end w.pieces w.largest
-
--- Where a step that was refused ends the reading; nothing is asked of one that found a piece.
-abbrev pub StopsAt : Step → ℕ → Ended → Type 0
-StopsAt (P.Found p n) at r = Unit {0}
-StopsAt (P.Refused number) at r = r ≡ Stopped number at
 
 -- That 1 and 14 are excluded; ks are the row's kind bytes.
 pub record Passed (s row ks : List ℕ) : Type 0 where
@@ -46,7 +37,7 @@ abbrev pub walk_texts : Bool → List ℕ → List ℕ → List ℕ → List (Li
 walk_texts prints s row ks = choose prints (λ _. shown_texts s row (placed s ks)) (λ _. [])
 
 abbrev pub pass_tally : Bool → List ℕ → List ℕ → List Placed → Tally
-pass_tally prints s row ps = choose prints (λ _. tallied s row (Length 0) ps) (λ _. Length 0)
+pass_tally prints s row ps = choose prints (λ _. tallied s row (Ok 0) ps) (λ _. Ok 0)
 
 -- What a pass over a format and kinds answers: of the pieces before a refusal, or of all.
 pub record Walk (s row ks : List ℕ) (prints : Bool) (r : Walked) : Type 0 where

@@ -1,5 +1,8 @@
 -- What `stage` leaves. Nothing in the promises of checking, measuring and printing speaks of it.
-use Rattle.std.specs.Prelude.{ℕ, ◌≡◌, ◌&&◌, List, [], leb, length}
+use Rattle.std.specs.Prelude.{ℕ, ◌≡◌, ◌&&◌, List, [], leb, ltb, length, Result, Ok, Err}
+use Rattle.refusals.specs.Numbers.{stop}
+use Rattle.refusals.specs.declared.Stop.{Stop}
+use Rattle.refusals.specs.declared.Refusal.TheVariants.{LongFormat, MalformedFormat}
 use Rattle.refusals.specs.Limits.{most_format}
 use Rattle.writing.specs.Choose.{choose}
 use Rattle.utf8.specs.Utf8.{well_formed}
@@ -16,3 +19,8 @@ staged_texts s row =
 pub record Staged (s row d e out ends : List ℕ) : Type 0 where
   pub bytes : out ≡ laid_texts (staged_texts s row) d
   pub slots : ends ≡ laid_ends (staged_texts s row) e
+
+-- 1 and 2, of a format by itself.
+unfoldable pub format_stop : List ℕ → Result (Unit {0}) Stop
+format_stop s =
+    choose (ltb most_format (length s)) (λ _. Err (stop LongFormat 0)) (λ _. choose (well_formed s) (λ _. Ok tt) (λ _. Err (stop MalformedFormat 0)))

@@ -1,14 +1,15 @@
 // One pass over the pieces of a format: it finds every refusal, adds up the text's length, and writes text and ends as far as they have room.
 // Ported from format_string.rs of datafusion-spark 55.2.0 (Apache-2.0; see NOTICE): the loops of Formatter::parse and Formatter::format.
-ghost use Rattle.std.specs.Prelude.{◌≡◌, max};
+ghost use Rattle.std.specs.Prelude.{◌≡◌};
 ghost use Rattle.printing.specs.Tallies.{laid_texts, laid_ends};
-ghost use Rattle.printing.specs.Passes.{Walkable, Walk, StopsAt, walk_texts};
+ghost use Rattle.printing.specs.Passes.{Walkable, Walk, walk_texts};
 
 use crate::tallies::Tally;
-use parsing::{Ended, Step};
+use parsing::Ended;
+use refusals::Refusal;
 
 // What a pass comes to: where reading ended, what was added up, the pieces and the largest argument index.
-#[derive(Clone, Copy)]
+#[derive(Clone, Copy, PartialEq, Eq)]
 pub struct Walked {
     pub end: Ended,
     pub tally: Tally,
@@ -16,33 +17,11 @@ pub struct Walked {
     pub largest: usize,
 }
 
-fn larger(a: usize, b: usize) -> usize
-    ensures { result ≡ max a b }
-{
-    if a < b {
-        return b;
-    }
-    a
-}
-
-// A refusal handed upward with its place. It is asked of refusals alone.
-fn stopped(step: Step, at: usize) -> Ended
-    ensures { StopsAt step at result }
-{
-    let Step::Refused { number } = step else {
-        return Ended::Finished;
-    };
-    Ended::Stopped {
-        number: number,
-        place: at,
-    }
-}
-
 // A pass over the pieces. Where it prints, text and ends are written on the way as far as they have room.
-pub(crate) fn walk<'a>(
-    fmt: &'a [u8],
-    row: &'a [u8],
-    kinds: &'a [u8],
+pub(crate) fn walk(
+    fmt: &[u8],
+    row: &[u8],
+    kinds: &[u8],
     prints: bool,
     out: &mut [u8],
     ends: &mut [u32],
@@ -53,43 +32,42 @@ pub(crate) fn walk<'a>(
     ensures ends_after { ends.new ≡ laid_ends (walk_texts prints fmt.now row.now kinds.now) ends.old }
 {
     let mut c = parsing::first_cursor();
-    let mut tally = Tally::Length(0);
-    let mut k: usize = 0;
-    let mut largest: usize = 0;
+    let mut tally: Tally = Ok(0);
+    let mut pieces = 0;
+    let mut largest = 0;
     while c.at < fmt.len() {
         let at = c.at;
-        if refusals::MOST_PIECES <= k {
+        if refusals::MOST_PIECES <= pieces {
             return Walked {
-                end: Ended::Stopped {
-                    number: refusals::MANY_PIECES,
-                    place: at,
-                },
-                tally: tally,
-                pieces: k,
-                largest: largest,
+                end: Err(Refusal::ManyPieces.at(at)),
+                tally,
+                pieces,
+                largest,
             };
         }
-        let step = parsing::next_piece(fmt, kinds, c);
-        let Step::Found { piece, next } = step else {
-            return Walked {
-                end: stopped(step, at),
-                tally: tally,
-                pieces: k,
-                largest: largest,
-            };
+        let (piece, next) = match parsing::next_piece(fmt, kinds, c) {
+            Ok(found) => found,
+            Err(refusal) => {
+                return Walked {
+                    end: Err(refusal.at(at)),
+                    tally,
+                    pieces,
+                    largest,
+                };
+            }
         };
         if prints {
             let size = crate::tallies::put_behind(fmt, row, piece, tally, out);
-            tally = crate::tallies::add_size(tally, size, at, k, ends);
+            tally = crate::tallies::add_size(tally, size, at, pieces, ends);
         }
-        largest = larger(largest, parsing::argument_of(piece));
-        k = k + 1;
+        largest = largest.max(parsing::argument_of(piece));
+        pieces += 1;
         c = next;
     }
     Walked {
-        end: Ended::Finished,
-        tally: tally,
-        pieces: k,
-        largest: largest,
+        end: Ok(()),
+        tally,
+        pieces,
+        largest,
     }
 }

@@ -1,4 +1,5 @@
 -- The parts of every finite value's text, read back, denote the value as demand 3 says. Assumes nothing.
+use Rattle.std.specs.Prelude.{None, Option, Some}
 use mathlib.Core.Path.{◌≡◌, refl, sym, ap, ◌∙◌}
 use mathlib.Core.Bool.{Bool, true, false, ◌||◌}
 use Prim.Native.Nat.{ℕ, ◌+◌, ◌-◌, ◌*◌, ◌^◌, ◌≤◌, ◌<◌, max}
@@ -9,8 +10,6 @@ use lib.Dec.{ltb, eqb, lit≤}
 use lib.Pow.{pow_pos}
 use borrow.Author.Tests.{lt-ltb, le-ltb, le-leb, lt-leb, eq-eqb, ne_eqb, ltb-true, ltb-false}
 use Rattle.writing.proofs.Choose.{by_test}
-use Rattle.numerals.specs.declared.NumericParam.{NumericParam}
-use Rattle.numerals.specs.declared.NumericParam.TheVariants.{Literal, FromArgument}
 use Rattle.binary64.specs.Fields.{negative, exponent_field, fraction_field, significand, units, scaled_bits}
 use Rattle.binary64.specs.HexFloat.{zero_form, normal_form, subnormal_form, shortest, rounded, normal_of, subnormal_of, hex_float_of}
 use Rattle.binary64.specs.declared.HexFloat.{HexFloat}
@@ -44,23 +43,23 @@ normal_not_zero b h e =
     omega (arith, normal_units b h, mul-pos {m = S} {n = 2 ^ k} (omega arith) (pow_pos k))
 
 -- which of the two claims stands, for a value that is not 0
-exact_claim : (b p : ℕ) (r : Scaled) → 13 ≤ p → Exactly b r → Denotes b (Literal p) r
+exact_claim : (b p : ℕ) (r : Scaled) → 13 ≤ p → Exactly b r → Denotes b (Some p) r
 exact_claim b p r h x = simp (le-leb 13 p h) (go (eqb (units b) 0))
   where
     go : (t : Bool) → claim (t || true) (Exactly b r) (Nearest b (max p 1) r)
     go true = x
     go false = x
 
-near-claim : (b p : ℕ) (r : Scaled) → (units b ≡ 0 → ⊥) → p < 13 → Nearest b (max p 1) r → Denotes b (Literal p) r
+near-claim : (b p : ℕ) (r : Scaled) → (units b ≡ 0 → ⊥) → p < 13 → Nearest b (max p 1) r → Denotes b (Some p) r
 near-claim b p r n h x = simp (ne_eqb (units b) 0 n, lt-leb 13 p h) x
 
-normal_denotes : (b : ℕ) (p : NumericParam) → 1 ≤ exponent_field b → Denotes b p (scaled_of (negative b) (normal_of p (fraction_field b) (exponent_field b) 1023))
+normal_denotes : (b : ℕ) (p : Option ℕ) → 1 ≤ exponent_field b → Denotes b p (scaled_of (negative b) (normal_of p (fraction_field b) (exponent_field b) 1023))
 unfolding shortest rounded
-normal_denotes b FromArgument h =
+normal_denotes b None h =
     let f = fraction_field b in
     let E = exponent_field b in
     exactly b (shortest f E 1023) (2 ^ 52 + f) (E - 1) (normal_units b h) (omega arith) (whole-shortest f E 1023)
-normal_denotes b (Literal p) h =
+normal_denotes b (Some p) h =
     let f = fraction_field b in
     let E = exponent_field b in
     let n = max p 1 in
@@ -90,7 +89,7 @@ module _ (b : ℕ) (z : exponent_field b ≡ 0) where
   scaled_denotes : (p : ℕ) → 1 ≤ fraction_field b → p < 13
       → Nearest b (max p 1)
       (scaled_of (negative b)
-      (normal_of (Literal p) (fraction_field (scaled_bits (fraction_field b))) (exponent_field (scaled_bits (fraction_field b))) (1023 + 54)))
+      (normal_of (Some p) (fraction_field (scaled_bits (fraction_field b))) (exponent_field (scaled_bits (fraction_field b))) (1023 + 54)))
   unfolding rounded
   scaled_denotes p n k =
       let f = fraction_field b in
@@ -100,19 +99,19 @@ module _ (b : ℕ) (z : exponent_field b ≡ 0) where
       (nearest_of b (fraction_field x) (exponent_field x) 54 (max p 1) (field_bounds x).1 w.0 (lit≤ tt) (omega arith) (omega arith)
       (ap (λ (n : ℕ). n * 2 ^ 54) (units_zero b z) ∙ sym (scaled_exact f n (field_bounds b).1) ∙ normal_units x w.0))
 
-  subnormal_denotes : (p : NumericParam) → 1 ≤ fraction_field b → Denotes b p (scaled_of (negative b) (subnormal_of p (fraction_field b)))
-  subnormal_denotes FromArgument n = unscaled
-  subnormal_denotes (Literal p) n =
-      by_test (λ (h : HexFloat). Denotes b (Literal p) (scaled_of (negative b) h)) (ltb p 13) _ _
+  subnormal_denotes : (p : Option ℕ) → 1 ≤ fraction_field b → Denotes b p (scaled_of (negative b) (subnormal_of p (fraction_field b)))
+  subnormal_denotes None n = unscaled
+  subnormal_denotes (Some p) n =
+      by_test (λ (h : HexFloat). Denotes b (Some p) (scaled_of (negative b) h)) (ltb p 13) _ _
       (λ k. near-claim b p _ (λ e. omega (arith, units_zero b z)) (ltb-true p 13 k) (scaled_denotes p n (ltb-true p 13 k)))
       (λ k. exact_claim b p _ (ltb-false p 13 k) unscaled)
 
-  zero_denotes : (p : NumericParam) → fraction_field b ≡ 0 → Denotes b p (scaled_of (negative b) zero_form)
-  zero_denotes FromArgument e = zero_exact e
-  zero_denotes (Literal p) e = simp (eq-eqb (units b) 0 (units_zero b z ∙ e)) (zero_exact e)
+  zero_denotes : (p : Option ℕ) → fraction_field b ≡ 0 → Denotes b p (scaled_of (negative b) zero_form)
+  zero_denotes None e = zero_exact e
+  zero_denotes (Some p) e = simp (eq-eqb (units b) 0 (units_zero b z ∙ e)) (zero_exact e)
 
 -- Demand 3 for %a, of the parts of the text. (Of an infinity or a NaN it says nothing that counts: these have texts of their own.)
-pub denotes : (b : ℕ) (p : NumericParam) → Denotes b p (scaled_of (negative b) (hex_float_of b p))
+pub denotes : (b : ℕ) (p : Option ℕ) → Denotes b p (scaled_of (negative b) (hex_float_of b p))
 denotes b p =
     by_form (λ (h : HexFloat). Denotes b p (scaled_of (negative b) h)) b p
     (λ z. zero_denotes b z p) (λ z. subnormal_denotes b z p) (normal_denotes b p)

@@ -1,8 +1,8 @@
 -- Digits that were written are read. Assumes nothing.
+use Rattle.std.specs.Prelude.{Some}
 use mathlib.Core.Path.{◌≡◌, refl}
 use mathlib.Core.Bool.{false}
 use mathlib.Core.List.{List, [], ◌∷◌}
-use mathlib.Core.Option.{some}
 use Prim.Native.Nat.{ℕ, ◌+◌, ◌-◌, ◌*◌, ◌≤◌, ◌<◌}
 use Prim.Native.Char.{code}
 use native.Mathlib.Decide.{dec_lt}
@@ -26,17 +26,17 @@ letter_range d h = elim (dec_lt d 10) [ yes p ↦ simp (lt-ltb d 10 p) (omega ar
 pub letter-is_not : (c d : ℕ) → d < 16 → ((x : ℕ) → code "0" ≤ x → x ≤ code "f" → x ≡ c → ⊥) → eqb (letter_of false d) c ≡ false
 letter-is_not c d h out = let r = letter_range d h in ne_eqb (letter_of false d) c (out (letter_of false d) r.0 r.1)
 
-digit_read : (base d : ℕ) → base ≤ 16 → d < base → digit_of base (letter_of false d) ≡ some d
+digit_read : (base d : ℕ) → base ≤ 16 → d < base → digit_of base (letter_of false d) ≡ Some d
 unfolding digit_of letter_of
 digit_read base d h k = elim (dec_lt d 10) [ yes p ↦ number p | no n ↦ letter (omega arith) ]
   where
-    number : d < 10 → digit_of base (letter_of false d) ≡ some d
+    number : d < 10 → digit_of base (letter_of false d) ≡ Some d
     number p =
         let x = code "0" + d in
         let e : x - code "0" ≡ d = omega arith in
         simp (lt-ltb d 10 p, le-leb (code "0") x (omega arith), le-leb x (code "9") (omega arith), e, lt-ltb d base k)
 
-    letter : 10 ≤ d → digit_of base (letter_of false d) ≡ some d
+    letter : 10 ≤ d → digit_of base (letter_of false d) ≡ Some d
     letter p =
         let x = code "a" + (d - 10) in
         let e : x - code "a" + 10 ≡ d = omega arith in
@@ -50,12 +50,12 @@ digit_read base d h k = elim (dec_lt d 10) [ yes p ↦ number p | no n ↦ lette
           lt-ltb d base k,
         )
 
-pub digits-read : (base v : ℕ) (ds : List ℕ) → base ≤ 16 → Below base ds → digits_from base v (letters_of false ds) ≡ some (number_from base v ds)
+pub digits-read : (base v : ℕ) (ds : List ℕ) → base ≤ 16 → Below base ds → digits_from base v (letters_of false ds) ≡ Some (number_from base v ds)
 unfolding digits_from letters_of number_from
 digits-read base v [] h b = refl
 digits-read base v (d ∷ ds) h b = simp (digit_read base d h b.0) (digits-read base (v * base + d) ds h b.1)
 
-pub whole_read : (base : ℕ) (ds : List ℕ) → base ≤ 16 → Below base ds → 0 < length ds → whole_number base (letters_of false ds) ≡ some (number_of base ds)
+pub whole_read : (base : ℕ) (ds : List ℕ) → base ≤ 16 → Below base ds → 0 < length ds → whole_number base (letters_of false ds) ≡ Some (number_of base ds)
 unfolding whole_number letters_of number_of
 whole_read base [] h b n = absurd (omega arith)
 whole_read base (d ∷ ds) h b n = digits-read base 0 (d ∷ ds) h b

@@ -1,8 +1,8 @@
 -- The piece of %a, read back: through mark, prefix, zeros, and spaces in every place where they may stand. Assumes nothing.
+use Rattle.std.specs.Prelude.{Some}
 use mathlib.Core.Path.{◌≡◌, refl, sym, ap, ◌∙◌}
 use mathlib.Core.Bool.{Bool, true, false}
 use mathlib.Core.List.{List, [], ◌∷◌, ◌++◌, append_assoc, append-nil}
-use mathlib.Core.Option.{some}
 use Prim.Native.Nat.{ℕ, suc, ◌+◌, ◌-◌, ◌*◌, ◌^◌, ◌≤◌, ◌<◌}
 use Prim.Native.Char.{code}
 use native.Mathlib.Nat.{mod-eq_of_lt, zero-mul, zero-add}
@@ -48,15 +48,15 @@ hex_prefix true = HexUpper
 
 -- digits are cut off at a byte that is no digit
 cut_letters : (b : ℕ) (ds rest : List ℕ) → ((x : ℕ) → code "0" ≤ x → x ≤ code "f" → x ≡ b → ⊥) → eqb b b ≡ true → Below 16 ds
-    → cut_at b (letters_of false ds ++ (b ∷ rest)) ≡ some (record { front = letters_of false ds; back = rest })
+    → cut_at b (letters_of false ds ++ (b ∷ rest)) ≡ Some (record { front = letters_of false ds; back = rest })
 unfolding cut_at letters_of
 cut_letters b [] rest out same l = simp same
 cut_letters b (d ∷ ds) rest out same l = simp (letter-is_not b d l.0 out, cut_letters b ds rest out same l.1)
 
 -- W before the point, F behind it, X behind `p`
-read_parts : (s : Bool) (W F X : List ℕ) (e : ℤ) → Below 16 W → Below 16 F → 0 < length W → 0 < length F → with_minus X ≡ some e
+read_parts : (s : Bool) (W F X : List ℕ) (e : ℤ) → Below 16 W → Below 16 F → 0 < length W → 0 < length F → with_minus X ≡ Some e
     → read_magnitude s (code "0" ∷ code "x" ∷ (letters_of false W ++ (code "." ∷ (letters_of false F ++ (code "p" ∷ X)))))
-    ≡ some (record { negative = s; m = number_from 16 (number_of 16 W) F; f = length F; e = e })
+    ≡ Some (record { negative = s; m = number_from 16 (number_of 16 W) F; f = length F; e = e })
 unfolding read_magnitude after_prefix
 read_parts s W F X e w f nw nf x =
     simp (
@@ -84,15 +84,15 @@ unfolding kept exponent_text
 kept_exponent false e bias = ap (λ (l : List ℕ). code "p" ∷ l) (number (ltb e bias) e bias)
 kept_exponent true e bias = ap (λ (l : List ℕ). code "p" ∷ l) (number (ltb e bias) e bias)
 
-exponent_read : (e bias : ℕ) → with_minus (exponent_digits (ltb e bias) e bias) ≡ some (sub_ℕ e bias)
+exponent_read : (e bias : ℕ) → with_minus (exponent_digits (ltb e bias) e bias) ≡ Some (sub_ℕ e bias)
 exponent_read e bias = elim (dec_lt e bias) [ yes p ↦ below p | no n ↦ above (omega arith) ]
   where
-    below : e < bias → with_minus (exponent_digits (ltb e bias) e bias) ≡ some (sub_ℕ e bias)
+    below : e < bias → with_minus (exponent_digits (ltb e bias) e bias) ≡ Some (sub_ℕ e bias)
     below p =
         let k : bias - e ≡ suc (bias - suc e) = omega arith in
-        simp (lt-ltb e bias p) (after_minus (bias - e) (digits 10 (bias - e)) (digits_of 10 (bias - e) (lit≤ tt)) ∙ ap (λ (n : ℕ). some (neg_ℤ (pos n))) k)
+        simp (lt-ltb e bias p) (after_minus (bias - e) (digits 10 (bias - e)) (digits_of 10 (bias - e) (lit≤ tt)) ∙ ap (λ (n : ℕ). Some (neg_ℤ (pos n))) k)
 
-    above : bias ≤ e → with_minus (exponent_digits (ltb e bias) e bias) ≡ some (sub_ℕ e bias)
+    above : bias ≤ e → with_minus (exponent_digits (ltb e bias) e bias) ≡ Some (sub_ℕ e bias)
     above p = simp (le-ltb e bias p) (unmarked (e - bias) (digits 10 (e - bias)) (digits_of 10 (e - bias) (lit≤ tt)))
 
 abbrev exponent_of : HexFloat → List ℕ
@@ -161,7 +161,7 @@ number_is z h k =
 
 -- What is read of the value's text behind a prefix and z zeros.
 magnitude_back : (s : Bool) (z : ℕ) (h : HexFloat) → 1 ≤ h.digits → h.fraction < 16 ^ h.digits
-    → read_magnitude s (code "0" ∷ code "x" ∷ (letters_of false (replicate z 0) ++ value_text h (exponent_of h))) ≡ some (scaled_of s h)
+    → read_magnitude s (code "0" ∷ code "x" ∷ (letters_of false (replicate z 0) ++ value_text h (exponent_of h))) ≡ Some (scaled_of s h)
 magnitude_back s z h one k =
     let d : List ℕ = leading_digit h.leading ∷ [] in
     let W = replicate z 0 ++ d in
@@ -180,7 +180,7 @@ magnitude_back s z h one k =
 
 -- The piece of %a or %A of a finite value, whatever its mark, zeros and spaces.
 pub float_back : (a : ℕ) (m : Mark) (v : Bool) (z : ℕ) (u : Bool) (h : HexFloat) (i : ℕ) → closing m ≡ [] → 1 ≤ h.digits → h.fraction < 16 ^ h.digits
-    → read_float (kept (spaced a m (hex_prefix v) z (hex_float_text u h) i)) ≡ some (scaled_of (is_minus m) h)
+    → read_float (kept (spaced a m (hex_prefix v) z (hex_float_text u h) i)) ≡ Some (scaled_of (is_minus m) h)
 unfolding kept read_float
 float_back a m v z u h i c one k =
     let text = value_text h (exponent_of h) in
@@ -189,7 +189,7 @@ float_back a m v z u h i c one k =
     ap read_float all ∙ by_mark m v c
   where
     by_mark : (m : Mark) (v : Bool) → closing m ≡ []
-        → read_float (kept (marks m (hex_prefix v)) ++ (letters_of false (replicate z 0) ++ value_text h (exponent_of h))) ≡ some (scaled_of (is_minus m) h)
+        → read_float (kept (marks m (hex_prefix v)) ++ (letters_of false (replicate z 0) ++ value_text h (exponent_of h))) ≡ Some (scaled_of (is_minus m) h)
     by_mark NoMark false c = magnitude_back false z h one k
     by_mark NoMark true c = magnitude_back false z h one k
     by_mark Plus false c = magnitude_back false z h one k

@@ -1,4 +1,5 @@
 -- The parts of a value's hexadecimal text: at least one digit, no digit lost, and the whole number that they make. Assumes nothing.
+use Rattle.std.specs.Prelude.{None, Option, Some}
 use mathlib.Core.Path.{◌≡◌, sym, ap, ◌∙◌}
 use mathlib.Core.Bool.{false}
 use Prim.Native.Nat.{ℕ, zero, suc, ◌+◌, ◌-◌, ◌*◌, ◌/◌, ◌%◌, ◌^◌, ◌≤◌, ◌<◌, max}
@@ -9,8 +10,6 @@ use lib.Dec.{ltb, eqb, lit<, lit≤}
 use lib.Pow.{pow-add}
 use borrow.Author.Tests.{eq-eqb, ne_eqb, eqb-true, eqb-false, ltb-true}
 use Rattle.writing.proofs.Choose.{by_test}
-use Rattle.numerals.specs.declared.NumericParam.{NumericParam}
-use Rattle.numerals.specs.declared.NumericParam.TheVariants.{Literal, FromArgument}
 use Rattle.binary64.specs.Fields.{exponent_field, fraction_field, scaled_bits}
 use Rattle.binary64.specs.Rounding.{nearest_to, kept_digits}
 use Rattle.binary64.specs.HexFloat.{zero_form, normal_form, subnormal_form, shortest, carried, rounded, normal_of, subnormal_of, hex_float_of}
@@ -83,12 +82,12 @@ module _ (f e bias : ℕ) (f-below : f < 2 ^ 52) where
       by_test WellFormed (ltb p 13) _ _
       (λ _. well_carried p (nearest_to f (16 ^ (13 - p))) h) (λ _. record { one_digit = lit≤ tt; below = f-below })
 
-  pub well_normal : (p : NumericParam) → WellFormed (normal_of p f e bias)
-  well_normal FromArgument = well_shortest
-  well_normal (Literal p) = well_rounded (max p 1) (omega arith)
+  pub well_normal : (p : Option ℕ) → WellFormed (normal_of p f e bias)
+  well_normal None = well_shortest
+  well_normal (Some p) = well_rounded (max p 1) (omega arith)
 
 -- What holds of the three forms holds of every value's.
-pub by_form : (P : HexFloat → Type 0) (b : ℕ) (p : NumericParam)
+pub by_form : (P : HexFloat → Type 0) (b : ℕ) (p : Option ℕ)
     → (exponent_field b ≡ 0 → fraction_field b ≡ 0 → P zero_form)
     → (exponent_field b ≡ 0 → 1 ≤ fraction_field b → P (subnormal_of p (fraction_field b)))
     → (1 ≤ exponent_field b → P (normal_of p (fraction_field b) (exponent_field b) 1023))
@@ -104,7 +103,7 @@ by_form P b p none subnormal normal =
     positive x t = omega (arith, eqb-false x 0 t)
 
 -- Every text has at least one digit behind the point, and its fraction fits its digits.
-pub well_formed_lem : (b : ℕ) (p : NumericParam) → WellFormed (hex_float_of b p)
+pub well_formed_lem : (b : ℕ) (p : Option ℕ) → WellFormed (hex_float_of b p)
 well_formed_lem b p =
     by_form WellFormed b p (λ _ _. record { one_digit = lit≤ tt; below = lit< tt }) (λ _ _. subnormal p)
     (λ _. well_normal (fraction_field b) (exponent_field b) 1023 (field_bounds b).1 p)
@@ -113,12 +112,12 @@ well_formed_lem b p =
     unscaled = record { one_digit = lit≤ tt; below = (field_bounds b).1 }
 
     scaled : (p : ℕ)
-        → WellFormed (normal_of (Literal p) (fraction_field (scaled_bits (fraction_field b))) (exponent_field (scaled_bits (fraction_field b))) (1023 + 54))
-    scaled p = let x = scaled_bits (fraction_field b) in well_normal (fraction_field x) (exponent_field x) (1023 + 54) (field_bounds x).1 (Literal p)
+        → WellFormed (normal_of (Some p) (fraction_field (scaled_bits (fraction_field b))) (exponent_field (scaled_bits (fraction_field b))) (1023 + 54))
+    scaled p = let x = scaled_bits (fraction_field b) in well_normal (fraction_field x) (exponent_field x) (1023 + 54) (field_bounds x).1 (Some p)
 
-    subnormal : (p : NumericParam) → WellFormed (subnormal_of p (fraction_field b))
-    subnormal FromArgument = unscaled
-    subnormal (Literal p) = by_test WellFormed (ltb p 13) _ _ (λ _. scaled p) (λ _. unscaled)
+    subnormal : (p : Option ℕ) → WellFormed (subnormal_of p (fraction_field b))
+    subnormal None = unscaled
+    subnormal (Some p) = by_test WellFormed (ltb p 13) _ _ (λ _. scaled p) (λ _. unscaled)
 
 -- The significand 2 ^ 52 + f, of 13 digits behind the point, as the parts write it: m * 16 ^ 13 is it times 16 to the number of digits.
 module _ (f e bias : ℕ) where

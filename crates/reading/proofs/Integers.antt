@@ -1,8 +1,8 @@
 -- The piece of an integer, read back: through zeros, commas, marks, prefixes and spaces, wherever these stand in its frame. Assumes nothing.
+use Rattle.std.specs.Prelude.{Option, None, Some}
 use mathlib.Core.Path.{◌≡◌, refl, sym, ap, ◌∙◌}
 use mathlib.Core.Bool.{Bool, true, false, ◌&&◌}
 use mathlib.Core.List.{List, [], ◌∷◌, ◌++◌, append_assoc, append-nil}
-use mathlib.Core.Option.{Option, none, some}
 use Prim.Native.Nat.{ℕ, ◌≤◌, ◌<◌}
 use Prim.Native.Char.{code}
 use native.Mathlib.Nat.{zero-mul}
@@ -76,19 +76,19 @@ zeros_first base n z ds h d =
     }
 
 -- a decimal number without a mark, and after `-`
-pub unmarked : (n : ℕ) (ds : List ℕ) → Digits 10 n ds → with_minus (letters_of false ds) ≡ some (signed false n)
+pub unmarked : (n : ℕ) (ds : List ℕ) → Digits 10 n ds → with_minus (letters_of false ds) ≡ Some (signed false n)
 unfolding with_minus letters_of
 unmarked n [] d = absurd (omega (arith, d.some_digit))
 unmarked n (c ∷ cs) d =
     let h : c < 16 = omega (arith, d.below.0) in
     simp (letter-is_not (code "-") c h (λ x p q e. omega arith), whole_read 10 (c ∷ cs) (lit≤ tt) d.below d.some_digit, d.number)
 
-pub after_minus : (n : ℕ) (ds : List ℕ) → Digits 10 n ds → with_minus (code "-" ∷ letters_of false ds) ≡ some (signed true n)
+pub after_minus : (n : ℕ) (ds : List ℕ) → Digits 10 n ds → with_minus (code "-" ∷ letters_of false ds) ≡ Some (signed true n)
 unfolding with_minus
 after_minus n ds d = simp (whole_read 10 ds (lit≤ tt) d.below d.some_digit, d.number)
 
 -- %d without a mark that counts
-plain : (n : ℕ) (ds : List ℕ) → Digits 10 n ds → read_decimal (letters_of false ds) ≡ some (signed false n)
+plain : (n : ℕ) (ds : List ℕ) → Digits 10 n ds → read_decimal (letters_of false ds) ≡ Some (signed false n)
 unfolding read_decimal letters_of
 plain n [] d = absurd (omega (arith, d.some_digit))
 plain n (c ∷ cs) d =
@@ -96,19 +96,19 @@ plain n (c ∷ cs) d =
     simp (letter-is_not (code "(") c h (λ x p q e. omega arith)) (unmarked n (c ∷ cs) d)
 
 -- .. inside brackets
-before_close_lem : (xs : List ℕ) → before_close (xs ++ (code ")" ∷ [])) ≡ some xs
+before_close_lem : (xs : List ℕ) → before_close (xs ++ (code ")" ∷ [])) ≡ Some xs
 unfolding before_close
 before_close_lem [] = refl
 before_close_lem (x ∷ []) = refl
 before_close_lem (x ∷ y ∷ xs) = simp (before_close_lem (y ∷ xs))
 
-brackets : (n : ℕ) (ds : List ℕ) → Digits 10 n ds → read_decimal (code "(" ∷ (letters_of false ds ++ (code ")" ∷ []))) ≡ some (signed true n)
+brackets : (n : ℕ) (ds : List ℕ) → Digits 10 n ds → read_decimal (code "(" ∷ (letters_of false ds ++ (code ")" ∷ []))) ≡ Some (signed true n)
 unfolding read_decimal
 brackets n ds d = simp (before_close_lem (letters_of false ds), whole_read 10 ds (lit≤ tt) d.below d.some_digit, d.number)
 
 -- The piece of %d: whatever its mark, zeros, commas and spaces, the integer. Its text keeps the digits of the magnitude.
 pub decimal-back : (a : ℕ) (m : Mark) (z : ℕ) (body : List ℕ) (i n : ℕ) → kept body ≡ letters_of false (digits 10 n)
-    → read_decimal (kept (spaced a m NoPrefix z body i)) ≡ some (signed (is_minus m) n)
+    → read_decimal (kept (spaced a m NoPrefix z body i)) ≡ Some (signed (is_minus m) n)
 unfolding kept read_decimal
 decimal-back a m z body i n e =
     let ds = digits 10 n in
@@ -121,7 +121,7 @@ decimal-back a m z body i n e =
     ∙ by_mark m (with_zeros z ds) d
   where
     by_mark : (m : Mark) (ds : List ℕ) → Digits 10 n ds
-        → read_decimal (kept (marks m NoPrefix) ++ (letters_of false ds ++ closing m)) ≡ some (signed (is_minus m) n)
+        → read_decimal (kept (marks m NoPrefix) ++ (letters_of false ds ++ closing m)) ≡ Some (signed (is_minus m) n)
     by_mark NoMark ds d = rw append-nil (plain n ds d)
     by_mark Plus ds d = rw append-nil (plain n ds d)
     by_mark Space ds d = rw append-nil (plain n ds d)
@@ -133,23 +133,23 @@ below_more base [] h b = tt
 below_more base (d ∷ ds) h b = (omega (arith, b.0), below_more base ds h b.1)
 
 -- digits do not begin with `0x`
-no_prefix : (ds : List ℕ) → Below 16 ds → after_prefix (letters_of false ds) ≡ none
+no_prefix : (ds : List ℕ) → Below 16 ds → after_prefix (letters_of false ds) ≡ None
 unfolding after_prefix letters_of
 no_prefix [] b = refl
 no_prefix (c ∷ []) b = refl
 no_prefix (c ∷ d ∷ ds) b = simp (letter-is_not (code "x") d b.1.0 (λ x p q e. omega arith)) (neither (eqb (letter_of false c) (code "0")))
   where
-    neither : (t : Bool) → choose {A = Option (List ℕ)} (t && false) (λ _. some (letters_of false ds)) (λ _. none) ≡ none
+    neither : (t : Bool) → choose {A = Option (List ℕ)} (t && false) (λ _. Some (letters_of false ds)) (λ _. None) ≡ None
     neither true = refl
     neither false = refl
 
 no_prefix_read : (base n : ℕ) (ds : List ℕ) → base ≤ 16 → Digits base n ds
-    → whole_number base (or_whole (letters_of false ds) (after_prefix (letters_of false ds))) ≡ some n
+    → whole_number base (or_whole (letters_of false ds) (after_prefix (letters_of false ds))) ≡ Some n
 no_prefix_read base n ds h d = simp (no_prefix ds (below_more base ds h d.below), whole_read base ds h d.below d.some_digit, d.number)
 
 -- What stands behind a prefix, or the digits where there is none; an octal prefix is a leading zero.
 after_prefix_lem : (p : Prefix) (base n : ℕ) (ds : List ℕ) → 2 ≤ base → base ≤ 16 → Digits base n ds
-    → read_bits base (kept (marks NoMark p) ++ letters_of false ds) ≡ some n
+    → read_bits base (kept (marks NoMark p) ++ letters_of false ds) ≡ Some n
 unfolding kept after_prefix read_bits letters_of letter_of
 after_prefix_lem NoPrefix base n ds h k d = no_prefix_read base n ds k d
 after_prefix_lem Octal base n ds h k d = no_prefix_read base n (0 ∷ ds) k (zeros_first base n 1 ds (omega arith) d)
@@ -158,7 +158,7 @@ after_prefix_lem HexUpper base n ds h k d = simp (whole_read base ds k d.below d
 
 -- The piece of %x or %o, whatever its prefix, zeros and spaces: the bits. Stated once over the base.
 pub bits_back : (a : ℕ) (p : Prefix) (z : ℕ) (body : List ℕ) (i base n : ℕ) → 2 ≤ base → base ≤ 16 → kept body ≡ letters_of false (digits base n)
-    → read_bits base (kept (spaced a NoMark p z body i)) ≡ some n
+    → read_bits base (kept (spaced a NoMark p z body i)) ≡ Some n
 bits_back a p z body i base n h k e =
     let d : Digits base n (with_zeros z (digits base n)) = zeros_first base n z (digits base n) (omega arith) (digits_of base n h) in
     ap (read_bits base)

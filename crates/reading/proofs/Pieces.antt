@@ -1,15 +1,14 @@
 -- 01's reading rule, fed the bytes of a printed piece and its letter, gives the number that was printed. Assumes nothing.
+use Rattle.std.specs.Prelude.{Option, Some}
 use mathlib.Core.Path.{◌≡◌, ap}
 use mathlib.Core.Bool.{Bool, true, false}
 use mathlib.Core.List.{List, []}
-use mathlib.Core.Option.{some}
 use Prim.Native.Nat.{ℕ}
 use Prim.Native.Char.{code}
 use lib.Dec.{lit≤}
 use Rattle.writing.specs.Choose.{choose}
 use Rattle.numerals.specs.Digits.{digits, letters_of}
 use Rattle.numerals.specs.Integers.{signed}
-use Rattle.numerals.specs.declared.NumericParam.{NumericParam}
 use Rattle.frames.specs.Frame.{closing}
 use Rattle.frames.specs.Signs.{is_minus}
 use Rattle.frames.specs.declared.Mark.{Mark}
@@ -43,8 +42,8 @@ unfolding read_piece
 octal_piece a p z body i n e = ap (reading Bits) (bits_back a p z body i 8 n (lit≤ tt) (lit≤ tt) e)
 
 -- %a and %A: the number that the parts make, which `Denotes` says more of.
-module _ (a : ℕ) (m : Mark) (w : Bool) (z : ℕ) (v : Bool) (b : ℕ) (p : NumericParam) (i : ℕ) (c : closing m ≡ []) where
-  parts_back : read_float (kept (spaced a m (hex_prefix w) z (hex_float_text v (hex_float_of b p)) i)) ≡ some (scaled_of (is_minus m) (hex_float_of b p))
+module _ (a : ℕ) (m : Mark) (w : Bool) (z : ℕ) (v : Bool) (b : ℕ) (p : Option ℕ) (i : ℕ) (c : closing m ≡ []) where
+  parts_back : read_float (kept (spaced a m (hex_prefix w) z (hex_float_text v (hex_float_of b p)) i)) ≡ Some (scaled_of (is_minus m) (hex_float_of b p))
   parts_back = let k = well_formed_lem b p in float_back a m w z v (hex_float_of b p) i c k.one_digit k.below
 
   pub float-piece : (u : Bool) → read_piece (choose u (λ _. code "A") (λ _. code "a")) (spaced a m (hex_prefix w) z (hex_float_text v (hex_float_of b p)) i)

@@ -1,5 +1,6 @@
 -- Worked examples of the numeral layer's definitions, one table: what a definition gives, as text, and what it should be.
-use Rattle.std.specs.Prelude.{ℕ, ◌+◌, ◌^◌, Bool, true, false, ◌&&◌, List, [], ◌∷◌, ◌++◌, eqb, ℤ, pos, negsuc, nat_abs}
+use Rattle.refusals.specs.declared.Refusal.TheVariants.{LargeNumber}
+use Rattle.std.specs.Prelude.{ℕ, ◌+◌, ◌^◌, Bool, true, false, ◌&&◌, List, [], ◌∷◌, ◌++◌, eqb, ℤ, pos, negsuc, nat_abs, None, Some, Err, Ok, Option}
 use Prim.Native.Char.{code}
 use Prim.Native.String.{String}
 use Rattle.writing.specs.Text.{ascii}
@@ -8,9 +9,6 @@ use Rattle.numerals.specs.Digits.{digits_in, places, letters_of, number_of, nume
 use Rattle.numerals.specs.Grouping.{grouped}
 use Rattle.numerals.specs.Integers.{int_of, bits_of}
 use Rattle.specifiers.specs.Params.{param_at}
-use Rattle.numerals.specs.declared.NumericParam.TheVariants.{Literal, FromArgument}
-use Rattle.specifiers.specs.declared.params.Taken.{Taken}
-use Rattle.specifiers.specs.declared.params.Taken.TheVariants.{Param, TooLarge}
 use Rattle.frames.specs.Frame.{framed, frame_of}
 use Rattle.frames.specs.declared.Mark.TheVariants.{NoMark, Plus, Space, Minus, Brackets}
 use Rattle.frames.specs.declared.Prefix.TheVariants.{NoPrefix, Octal, HexLower, HexUpper}
@@ -24,16 +22,18 @@ use Rattle.hexfloats.specs.Texts.{hex_float_text}
 use Rattle.reading.specs.Kept.{kept}
 use Rattle.reading.specs.Nearness.{whole_at, value_at, apart}
 use Rattle.reading.specs.Reading.{Reading, Unread, Integer, Bits, Float, read_piece}
+use Rattle.refusals.specs.Numbers.{Parsed}
 
 -- an integer, a parameter with the place behind it, and a reading (m, f and e of a float), each as text
 abbrev pub shown_int : ℤ → List ℕ
 shown_int (pos n) = decimal n
 shown_int (negsuc n) = code "-" ∷ decimal (1 + n)
 
-abbrev pub shown_taken : Taken → List ℕ
-shown_taken (Param (Literal n) next) = decimal n ++ (code " " ∷ decimal next)
-shown_taken (Param FromArgument next) = ascii "none " ++ decimal next
-shown_taken TooLarge = ascii "too large"
+abbrev pub shown_taken : Parsed (Option ℕ) → List ℕ
+shown_taken (Ok (Some n, next)) = decimal n ++ (code " " ∷ decimal next)
+shown_taken (Ok (None, next)) = ascii "none " ++ decimal next
+shown_taken (Err LargeNumber) = ascii "too large"
+shown_taken (Err other) = ascii "refused"
 
 abbrev pub shown_sign : Bool → List ℕ
 shown_sign false = []
@@ -92,16 +92,16 @@ rows =
     ∷ record { given = decimal (nearest_to 5 2); text = "2" }
     ∷ record { given = decimal (nearest_to 7 2); text = "4" }
     ∷ record { given = decimal (kept_digits 13 0x8000_0000_0000); text = "2" }
-    ∷ record { given = hex_float_text false (hex_float_of 0 (Literal 5)); text = "0.0p0" }
-    ∷ record { given = hex_float_text false (hex_float_of 0x3ff0_0000_0000_0000 FromArgument); text = "1.0p0" }
-    ∷ record { given = hex_float_text false (hex_float_of 0x3ff0_8000_0000_0000 FromArgument); text = "1.08p0" }
-    ∷ record { given = hex_float_text false (hex_float_of 0x3ff0_8000_0000_0000 (Literal 1)); text = "1.0p0" }
-    ∷ record { given = hex_float_text false (hex_float_of 0x3ff1_8000_0000_0000 (Literal 0)); text = "1.2p0" }
-    ∷ record { given = hex_float_text false (hex_float_of 0x3fff_8000_0000_0000 (Literal 1)); text = "1.0p1" }
-    ∷ record { given = hex_float_text false (hex_float_of 0x7fef_ffff_ffff_ffff (Literal 1)); text = "1.0p1024" }
-    ∷ record { given = hex_float_text true (hex_float_of 0x3ffa_bcde_f012_3456 (Literal 15)); text = "1.ABCDEF012345600P0" }
-    ∷ record { given = hex_float_text false (hex_float_of 1 (Literal 1)); text = "1.0p-1074" }
-    ∷ record { given = hex_float_text false (hex_float_of 1 (Literal 20)); text = "0.0000000000001p-1022" }
+    ∷ record { given = hex_float_text false (hex_float_of 0 (Some 5)); text = "0.0p0" }
+    ∷ record { given = hex_float_text false (hex_float_of 0x3ff0_0000_0000_0000 None); text = "1.0p0" }
+    ∷ record { given = hex_float_text false (hex_float_of 0x3ff0_8000_0000_0000 None); text = "1.08p0" }
+    ∷ record { given = hex_float_text false (hex_float_of 0x3ff0_8000_0000_0000 (Some 1)); text = "1.0p0" }
+    ∷ record { given = hex_float_text false (hex_float_of 0x3ff1_8000_0000_0000 (Some 0)); text = "1.2p0" }
+    ∷ record { given = hex_float_text false (hex_float_of 0x3fff_8000_0000_0000 (Some 1)); text = "1.0p1" }
+    ∷ record { given = hex_float_text false (hex_float_of 0x7fef_ffff_ffff_ffff (Some 1)); text = "1.0p1024" }
+    ∷ record { given = hex_float_text true (hex_float_of 0x3ffa_bcde_f012_3456 (Some 15)); text = "1.ABCDEF012345600P0" }
+    ∷ record { given = hex_float_text false (hex_float_of 1 (Some 1)); text = "1.0p-1074" }
+    ∷ record { given = hex_float_text false (hex_float_of 1 (Some 20)); text = "0.0000000000001p-1022" }
     ∷ record { given = kept (ascii " +1,2 F"); text = "12f" }
     ∷ record { given = shown_reading (read_piece (code "d") (ascii "  (1,234   )")); text = "-1234" }
     ∷ record { given = shown_reading (read_piece (code "d") (ascii "+007 ")); text = "7" }

@@ -1,8 +1,6 @@
 -- Exactness and nearness. 01: "judged over whole numbers: the value, the number read and any rival, of either sign, all multiplied by one
 -- power of two that clears their negative exponents."
-use Rattle.std.specs.Prelude.{ℕ, suc, ◌+◌, ◌-◌, ◌*◌, ◌%◌, ◌^◌, ◌≤◌, ◌<◌, max, ◌≡◌, Bool, true, false, ◌||◌, leb, eqb, ℤ, pos, negsuc}
-use Rattle.numerals.specs.declared.NumericParam.{NumericParam}
-use Rattle.numerals.specs.declared.NumericParam.TheVariants.{Literal, FromArgument}
+use Rattle.std.specs.Prelude.{ℕ, suc, ◌+◌, ◌-◌, ◌*◌, ◌%◌, ◌^◌, ◌≤◌, ◌<◌, max, ◌≡◌, Bool, true, false, ◌||◌, leb, eqb, ℤ, pos, negsuc, None, Option, Some}
 use Rattle.binary64.specs.Fields.{negative, units}
 use Rattle.reading.specs.Reading.{Scaled}
 
@@ -57,6 +55,6 @@ claim false A B = B
 
 -- What demand 3 says of %a: "%a is exact for zero, its sign included, and for every finite value without precision or with 13 or more. With
 -- precision 1 to 12 (0 counts as 1)" it is the nearest.
-abbrev pub Denotes : ℕ → NumericParam → Scaled → Type 0
-Denotes b FromArgument r = Exactly b r
-Denotes b (Literal p) r = claim (eqb (units b) 0 || leb 13 p) (Exactly b r) (Nearest b (max p 1) r)
+abbrev pub Denotes : ℕ → Option ℕ → Scaled → Type 0
+Denotes b None r = Exactly b r
+Denotes b (Some p) r = claim (eqb (units b) 0 || leb 13 p) (Exactly b r) (Nearest b (max p 1) r)

@@ -7,13 +7,12 @@ use native.Mathlib.Omega.{arith}
 use borrow.Author.Tests.{lt-ltb, le-ltb}
 use lib.Dec.{ltb}
 use lib.ListN.{length}
+use Rattle.std.specs.Prelude.{Option, Some, None}
 use Rattle.writing.specs.Choose.{choose}
 use Rattle.records.specs.Records.{record_at}
 use Rattle.records.specs.Places.{FoundLies}
 use Rattle.records.specs.Verdicts.{verdict_of, verdicts_from, verdicts, passes, failures, Counts, with_verdict}
 use Rattle.records.specs.declared.Record.{Record}
-use Rattle.records.specs.declared.Found.{Found}
-use Rattle.records.specs.declared.Found.TheVariants.{Whole, Broken}
 use Rattle.records.specs.declared.Tally.{Tally}
 
 one_more : (b : Bool) (vs : List Bool) → passes (b ∷ vs) + failures (b ∷ vs) ≡ suc (passes vs + failures vs)
@@ -25,11 +24,11 @@ one_more false vs = omega arith
 abbrev Most : ℕ → List Bool → Type 0
 Most k vs = passes vs + failures vs ≤ k
 
-at_most : (holds : Record → Bool) (others : ℕ → List Bool) (k : ℕ) → ((n : ℕ) → Most k (others n)) → (b : Bool) (f : Found)
+at_most : (holds : Record → Bool) (others : ℕ → List Bool) (k : ℕ) → ((n : ℕ) → Most k (others n)) → (b : Bool) (f : Option Record)
     → Most (suc k) (choose b (λ _. verdict_of holds others f) (λ _. []))
 unfolding passes failures
-at_most holds others k h true (Whole r) = omega (arith, h r.next, one_more (holds r) (others r.next))
-at_most holds others k h true Broken = omega arith
+at_most holds others k h true (Some r) = omega (arith, h r.next, one_more (holds r) (others r.next))
+at_most holds others k h true None = omega arith
 at_most holds others k h false f = omega arith
 
 pub verdicts_most : (holds : Record → Bool) (k : ℕ) (s : List ℕ) (at : ℕ)
@@ -93,16 +92,16 @@ module _ (holds : Record → Bool) (s : List ℕ) where
       fuel : length s - (t.passed + t.failed) ≡ suc (length s - (t.passed + t.failed + 1))
       fuel = omega (arith, c.few)
 
-      pub counting_more : (r : Record) → record_at s t.at ≡ Whole r → FoundLies s t.at (Whole r) → Counting holds s (with_verdict (holds r) r.next t)
+      pub counting_more : (r : Record) → record_at s t.at ≡ Some r → FoundLies s t.at (Some r) → Counting holds s (with_verdict (holds r) r.next t)
       unfolding verdicts_from
       counting_more r e l = more (holds r) r.next (simp (fuel, lt-ltb _ _ h, e)) l.0 l.1.in_list
 
       -- A record that breaks the layout is the last.
-      left_broken : record_at s t.at ≡ Broken → left holds s t ≡ false ∷ []
+      left_broken : record_at s t.at ≡ None → left holds s t ≡ false ∷ []
       unfolding verdicts_from
       left_broken e = simp (fuel, lt-ltb _ _ h, e)
 
-      pub counting_broken : record_at s t.at ≡ Broken → Counts (verdicts holds s) (with_verdict false t.at t)
+      pub counting_broken : record_at s t.at ≡ None → Counts (verdicts holds s) (with_verdict false t.at t)
       unfolding passes failures
       counting_broken e =
           let l = left_broken e in

@@ -1,5 +1,6 @@
 -- What a record states, compared with an answer field by field.
-use Rattle.std.specs.Prelude.{ℕ, zero, suc, ◌+◌, ◌-◌, Bool, true, false, ◌&&◌, List, [], ◌∷◌, eqb, length, take, drop}
+use Rattle.std.specs.Prelude.{ℕ, zero, suc, ◌+◌, ◌-◌, Bool, false, ◌&&◌, List, [], ◌∷◌, eqb, nat_eq, length, take, drop}
+use Rattle.std.specs.Cmp.Lexicographic.{pointwise}
 use Rattle.words.specs.LittleEndian.{word_at}
 use Rattle.records.specs.declared.statements.Stated.{Stated}
 use Rattle.records.specs.declared.statements.Stated.TheVariants.{Accepts, Prints, Refuses}
@@ -9,11 +10,8 @@ abbrev pub between : ℕ → ℕ → List ℕ → List ℕ
 between from to s = take (to - from) (drop from s)
 
 -- Whether two lists are the same.
-unfoldable pub same_list : List ℕ → List ℕ → Bool
-same_list [] [] = true
-same_list [] (b ∷ ys) = false
-same_list (a ∷ xs) [] = false
-same_list (a ∷ xs) (b ∷ ys) = eqb a b && same_list xs ys
+abbrev pub same_list : List ℕ → List ℕ → Bool
+same_list = pointwise nat_eq
 
 -- So many numbers of four bytes, one behind the other from a place on.
 unfoldable pub fours : List ℕ → ℕ → ℕ → List ℕ

@@ -1,16 +1,14 @@
 -- The records of a list judged one after the other, and counted.
-use Rattle.std.specs.Prelude.{ℕ, zero, suc, ◌+◌, ◌≡◌, Bool, true, false, List, [], ◌∷◌, ltb, length}
+use Rattle.std.specs.Prelude.{ℕ, zero, suc, ◌+◌, ◌≡◌, Bool, true, false, Option, Some, None, List, [], ◌∷◌, ltb, length}
 use Rattle.writing.specs.Choose.{choose}
 use Rattle.records.specs.Records.{record_at}
 use Rattle.records.specs.declared.Record.{Record}
-use Rattle.records.specs.declared.Found.{Found}
-use Rattle.records.specs.declared.Found.TheVariants.{Whole, Broken}
 use Rattle.records.specs.declared.Tally.{Tally}
 
 -- The verdict on a record, and on those behind it. A record that breaks the layout does not hold, and ends the list.
-abbrev pub verdict_of : (Record → Bool) → (ℕ → List Bool) → Found → List Bool
-verdict_of holds others (Whole r) = holds r ∷ others r.next
-verdict_of holds others Broken = false ∷ []
+abbrev pub verdict_of : (Record → Bool) → (ℕ → List Bool) → Option Record → List Bool
+verdict_of holds others (Some r) = holds r ∷ others r.next
+verdict_of holds others None = false ∷ []
 
 -- The verdicts on at most so many records, from a place on.
 unfoldable pub verdicts_from : (Record → Bool) → ℕ → List ℕ → ℕ → List Bool

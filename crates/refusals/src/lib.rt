@@ -1,49 +1,107 @@
-// 01's table, "What stops a call": the number of each refusal, with the table's words, in its order, and those that later requests add; and the
+// 01's table, "What stops a call": each refusal with the table's words, in its order, those that later requests add, and the number of each; and the
 // limits that they name.
 #![tactic(auto)]
 
-// format over 4,096 bytes
-pub const LONG_FORMAT: u8 = 1;
-// format not UTF-8
-pub const MALFORMED_FORMAT: u8 = 2;
-// over 64 kinds, or a kind not 1 to 8 (checking)
-pub const BAD_KINDS: u8 = 3;
-// row breaks its layout
-pub const BROKEN_ROW: u8 = 14;
-// `%<` before any element
-pub const NO_ELEMENT_BEFORE: u8 = 4;
-// `%$`
-pub const NO_INDEX: u8 = 5;
-// number above 2,147,483,647
-pub const LARGE_NUMBER: u8 = 6;
-// argument index above the count of kinds
-pub const NO_SUCH_ARGUMENT: u8 = 7;
-// `0` after `-`
-pub const ZERO_AFTER_MINUS: u8 = 8;
-// both `+` and space
-pub const PLUS_AND_SPACE: u8 = 9;
-// no such letter, or end
-pub const NO_LETTER: u8 = 10;
-// no such time letter, or end
-pub const NO_TIME_LETTER: u8 = 11;
-// letter does not fit the kind
-pub const UNFIT_LETTER: u8 = 12;
-// a 513th piece begins
-pub const MANY_PIECES: u8 = 13;
-// letter not printed for this kind
-pub const NOT_PRINTED: u8 = 15;
-// %c of no Unicode scalar value
-pub const NO_SCALAR: u8 = 16;
-// text longer than output or than 4,294,967,295, or more pieces than ends (printing only)
-pub const NO_ROOM: u8 = 17;
-// 02, E1: a negative timestamp that is not a whole second, under t or T
-pub const NO_WHOLE_SECOND: u8 = 18;
-// 02, E4: a join of a gate present
-pub const GATE_PRESENT: u8 = 19;
-// 02, E4: a leave of a gate absent
-pub const GATE_ABSENT: u8 = 20;
-// 02, E4: a join when 128 are present
-pub const LIST_FULL: u8 = 21;
+ghost use Rattle.std.specs.Prelude.{◌≡◌};
+ghost use Rattle.refusals.specs.Numbers.{refusal_number, stop};
+
+// Why a call is refused.
+#[derive(Clone, Copy, Debug, PartialEq, Eq)]
+pub enum Refusal {
+    // format over 4,096 bytes
+    LongFormat,
+    // format not UTF-8
+    MalformedFormat,
+    // over 64 kinds, or a kind not 1 to 8 (checking)
+    BadKinds,
+    // row breaks its layout
+    BrokenRow,
+    // `%<` before any element
+    NoElementBefore,
+    // `%$`
+    NoIndex,
+    // number above 2,147,483,647
+    LargeNumber,
+    // argument index above the count of kinds
+    NoSuchArgument,
+    // `0` after `-`
+    ZeroAfterMinus,
+    // both `+` and space
+    PlusAndSpace,
+    // no such letter, or end
+    NoLetter,
+    // no such time letter, or end
+    NoTimeLetter,
+    // letter does not fit the kind
+    UnfitLetter,
+    // a 513th piece begins
+    ManyPieces,
+    // letter not printed for this kind
+    NotPrinted,
+    // %c of no Unicode scalar value
+    NoScalar,
+    // text longer than output or than 4,294,967,295, or more pieces than ends (printing only)
+    NoRoom,
+    // 02, E1: a negative timestamp that is not a whole second, under t or T
+    NoWholeSecond,
+    // 02, E4: a join of a gate present
+    GatePresent,
+    // 02, E4: a leave of a gate absent
+    GateAbsent,
+    // 02, E4: a join when 128 are present
+    ListFull,
+}
+
+impl Refusal {
+    // The number that 01 and later requests give it.
+    pub fn number(self) -> u8
+        ensures { result ≡ refusal_number self }
+    {
+        match self {
+            Refusal::LongFormat => 1,
+            Refusal::MalformedFormat => 2,
+            Refusal::BadKinds => 3,
+            Refusal::NoElementBefore => 4,
+            Refusal::NoIndex => 5,
+            Refusal::LargeNumber => 6,
+            Refusal::NoSuchArgument => 7,
+            Refusal::ZeroAfterMinus => 8,
+            Refusal::PlusAndSpace => 9,
+            Refusal::NoLetter => 10,
+            Refusal::NoTimeLetter => 11,
+            Refusal::UnfitLetter => 12,
+            Refusal::ManyPieces => 13,
+            Refusal::BrokenRow => 14,
+            Refusal::NotPrinted => 15,
+            Refusal::NoScalar => 16,
+            Refusal::NoRoom => 17,
+            Refusal::NoWholeSecond => 18,
+            Refusal::GatePresent => 19,
+            Refusal::GateAbsent => 20,
+            Refusal::ListFull => 21,
+        }
+    }
+
+    // It, at a place.
+    pub fn at(self, place: usize) -> Stop
+        ensures { result ≡ stop self place }
+    {
+        Stop {
+            refusal: self,
+            place,
+        }
+    }
+}
+
+// Where a call is stopped, and why. The place is an offset in the format, 0 where the refusal has none.
+#[derive(Clone, Copy, Debug, PartialEq, Eq)]
+pub struct Stop {
+    pub refusal: Refusal,
+    pub place: usize,
+}
+
+// What a step of reading answers: what stands there and the place behind it, or why it is refused.
+pub type Parsed<T> = Result<(T, usize), Refusal>;
 
 // The most bytes of a format, kinds of a check, and pieces.
 pub const MOST_FORMAT: usize = 4096;

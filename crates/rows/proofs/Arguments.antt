@@ -1,5 +1,5 @@
 -- What a row has for one of its arguments: room for its kind byte and its value, and, where it names a text, that part of the row. Assumes nothing.
-use Rattle.std.proofs.Common.{◌≡◌, ℕ, ◌+◌, ◌*◌, ◌/◌, ◌%◌, ◌^◌, ◌≤◌, Bool, true, false, List, length, take, drop, subst, arith, drop-drop, ltb-true, leb-true}
+use Rattle.std.proofs.Common.{◌≡◌, ℕ, ◌+◌, ◌*◌, ◌/◌, ◌%◌, ◌^◌, ◌≤◌, Bool, true, false, List, length, take, drop, subst, arith, drop-drop, ltb-true, leb-true, Option, Some}
 use Rattle.refusals.specs.Limits.{most_values}
 use Rattle.writing.proofs.Choose.{both}
 use Rattle.kinds.specs.declared.Kind.{Kind}
@@ -11,7 +11,7 @@ use Rattle.rows.specs.declared.entries.Entry.{Entry}
 use Rattle.rows.proofs.Rows.{row_shape, text-length, entry}
 
 -- A value of kind 7 is not null, and names a part inside the text.
-text-held : (text : List ℕ) (null : Bool) (v : ℕ) → is_entry text (record { kind = K.Text; null = null; value = v }) ≡ true
+text-held : (text : List ℕ) (null : Bool) (v : ℕ) → is_entry text (record { kind = Some K.Text; null = null; value = v }) ≡ true
     → v % 2 ^ 32 + v / 2 ^ 32 ≤ length text
 unfolding is_entry
 text-held text true v f = absurd (omega (arith, ltb-true 1 0 f))
@@ -23,15 +23,15 @@ module _ (row : List ℕ) (a : ℕ) (h : Argument row a) where
       let w = row_shape row h.kept in
       (omega (arith, w.0), w.1, h.first, h.last)
 
-  pub argument-names : (entry_at row a).kind ≡ K.Text → Names row (entry_at row a)
+  pub argument-names : (entry_at row a).kind ≡ Some K.Text → Names row (entry_at row a)
   argument-names t = record { kept = h.kept; is = entry row h.kept a h.first h.last; text = t }
 
 module _ (row : List ℕ) (e : Entry) (h : Names row e) where
-  pub text-room : (6 + 9 * count_of row + e.value % 2 ^ 32 + e.value / 2 ^ 32 ≤ length row) × (length row ≤ 33350)
-  text-room =
+  pub text_room : (6 + 9 * count_of row + e.value % 2 ^ 32 + e.value / 2 ^ 32 ≤ length row) × (length row ≤ 33350)
+  text_room =
       let w = row_shape row h.kept in
       let l = text-length row h.kept in
-      let q = subst (λ (k : Kind). is_entry (text_area row) (record { kind = k; null = e.null; value = e.value }) ≡ true) h.text h.is in
+      let q = subst (λ (k : Option Kind). is_entry (text_area row) (record { kind = k; null = e.null; value = e.value }) ≡ true) h.text h.is in
       let i = text-held (text_area row) e.null e.value q in
       (omega (arith, w.0, l, i), omega (arith, w.0, w.1, w.2))
 

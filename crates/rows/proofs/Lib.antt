@@ -1,4 +1,3 @@
 pub mod Widths
-mod EntryList
 pub mod Rows
 pub mod Arguments

@@ -1,13 +1,11 @@
 -- What a row that keeps its layout has. Assumes nothing.
-use Rattle.std.proofs.Common.{◌≡◌, ℕ, zero, suc, ◌+◌, ◌-◌, ◌*◌, ◌^◌, ◌<◌, ◌≤◌, Bool, true, false, eqb, leb, List, [], ◌∷◌, length, get_or, take, drop, sym, refl, ap, ◌∙◌, subst, add-zero, pow-suc, arith, length-drop, length-take-le, get_or-drop, get_or-take, eqb-true, leb-true}
+use Rattle.std.proofs.Common.{◌≡◌, ℕ, zero, suc, ◌+◌, ◌-◌, ◌*◌, ◌^◌, ◌<◌, ◌≤◌, Bool, true, false, eqb, leb, List, [], ◌∷◌, length, get_or, take, drop, sym, refl, ap, ◌∙◌, subst, add-zero, pow-suc, arith, length-drop, length-take-le, get_or-drop, get_or-take, eqb-true, leb-true, Option, Some, None}
 use native.Mathlib.Nat.{one-le-pow}
 use Rattle.refusals.specs.Limits.{most_values, most_text}
 use Rattle.words.specs.LittleEndian.{little_endian, word_at}
 use Rattle.rows.specs.Entry.{is_entry}
 use Rattle.rows.specs.Row.{count_of, text_size, kinds_of, text_area, kind_byte_of, value_of, entry_at, entries_from, is_row}
 use Rattle.rows.specs.Arguments.{row_of}
-use Rattle.rows.specs.declared.RowRead.{RowRead}
-use Rattle.rows.specs.declared.RowRead.TheVariants.{Row, Broken}
 use Rattle.writing.specs.Choose.{choose}
 use Rattle.writing.proofs.Choose.{both}
 
@@ -87,18 +85,18 @@ module _ (row : List ℕ) (kept : is_row row ≡ true) where
       ap (λ (i : ℕ). is_entry (text_area row) (entry_at row i)) (sym e) ∙ one_of (count_of row) row 1 (layout row kept).entries (a - 1) (omega arith)
 
 -- What the answer of reading a row says.
-abbrev Answered : List ℕ → RowRead → Bool → Type 0
-Answered row (Row n) b = (b ≡ true) × (n ≡ count_of row)
-Answered row Broken b = b ≡ false
+abbrev Answered : List ℕ → Option ℕ → Bool → Type 0
+Answered row (Some n) b = (b ≡ true) × (n ≡ count_of row)
+Answered row None b = b ≡ false
 
-answered : (row : List ℕ) (b : Bool) → Answered row (choose b (λ _. Row (count_of row)) (λ _. Broken)) b
+answered : (row : List ℕ) (b : Bool) → Answered row (choose b (λ _. Some (count_of row)) (λ _. None)) b
 answered row true = (refl, refl)
 answered row false = refl
 
-pub row_read : (row : List ℕ) (n : ℕ) → row_of row ≡ Row n → (is_row row ≡ true) × (n ≡ count_of row)
+pub row_read : (row : List ℕ) (n : ℕ) → row_of row ≡ Some n → (is_row row ≡ true) × (n ≡ count_of row)
 unfolding row_of
-row_read row n e = subst (λ (x : RowRead). Answered row x (is_row row)) e (answered row (is_row row))
+row_read row n e = subst (λ (x : Option ℕ). Answered row x (is_row row)) e (answered row (is_row row))
 
-pub row_broken : (row : List ℕ) → row_of row ≡ Broken → is_row row ≡ false
+pub row_broken : (row : List ℕ) → row_of row ≡ None → is_row row ≡ false
 unfolding row_of
-row_broken row e = subst (λ (x : RowRead). Answered row x (is_row row)) e (answered row (is_row row))
+row_broken row e = subst (λ (x : Option ℕ). Answered row x (is_row row)) e (answered row (is_row row))

@@ -1,5 +1,5 @@
 -- One entry of a row, as 01 has it: a kind, whether it is null, and a value, over the text of the row.
-use Rattle.std.specs.Prelude.{ℕ, ◌+◌, ◌-◌, ◌/◌, ◌%◌, ◌^◌, Bool, true, false, ◌&&◌, ◌||◌, ltb, List, length, take, drop, ℤ, ◌==◌, nat_le, nat_lt}
+use Rattle.std.specs.Prelude.{ℕ, ◌+◌, ◌-◌, ◌/◌, ◌%◌, ◌^◌, Bool, true, false, ◌&&◌, ◌||◌, ltb, List, length, take, drop, ℤ, ◌==◌, nat_le, nat_lt, Some, None, Option}
 use Rattle.writing.specs.Choose.{choose}
 use Rattle.numerals.specs.Integers.{integer_of}
 use Rattle.utf8.specs.Utf8.{well_formed}
@@ -24,25 +24,27 @@ within k v =
 
 -- The values of each kind: its integers; every pattern of a float; "Boolean (0 or 1)"; a text whose offset and length have a "sum at most t,
 -- well-formed UTF-8"; every timestamp.
-abbrev pub holds : Kind → List ℕ → ℕ → Bool
-holds (K.Integer k) text v = within k v
-holds K.Float64 text v = true
-holds K.Boolean text v = nat_le v 1
-holds K.Text text v = nat_le (v % 2 ^ 32 + v / 2 ^ 32) (length text) && well_formed (part_of text v)
-holds K.Timestamp text v = true
-holds K.NoKind text v = false
+abbrev pub holds : Option Kind → List ℕ → ℕ → Bool
+holds (Some (K.Integer k)) text v = within k v
+holds (Some K.Float64) text v = true
+holds (Some K.Boolean) text v = nat_le v 1
+holds (Some K.Text) text v = nat_le (v % 2 ^ 32 + v / 2 ^ 32) (length text) && well_formed (part_of text v)
+holds (Some K.Timestamp) text v = true
+holds None text v = false
 
 -- "128 added to kinds 1 to 4 or 6 means null, with value 0." A timestamp is "never null" (02, E1).
-abbrev pub can_be_null : Kind → Bool
-can_be_null k = by_kind (λ _. true) false true false false false k
+abbrev pub can_be_null : Option Kind → Bool
+can_be_null (Some k) = by_kind (λ _. true) false true false false k
+can_be_null None = false
 
 -- Whether an entry may stand in a row with this text.
 unfoldable pub is_entry : List ℕ → Entry → Bool
 is_entry text e = choose e.null (λ _. can_be_null e.kind && e.value == 0) (λ _. holds e.kind text e.value)
 
 -- The kind of an entry as an integer's, and its integer; of any other kind they are not asked.
-abbrev pub integer_kind_of : Kind → IntegerKind
-integer_kind_of k = let other : IntegerKind = record { width = 64; signed = true } in by_kind (λ i. i) other other other other other k
+abbrev pub integer_kind_of : Option Kind → IntegerKind
+integer_kind_of (Some k) = let other : IntegerKind = record { width = 64; signed = true } in by_kind (λ i. i) other other other other k
+integer_kind_of None = record { width = 64; signed = true }
 
 abbrev pub integer_in : Entry → ℤ
 integer_in x = integer_of (integer_kind_of x.kind).signed x.value

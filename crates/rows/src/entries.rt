@@ -5,10 +5,10 @@ ghost use Rattle.rows.specs.Widths.{HasWidth};
 
 use kinds::{IntegerKind, Kind};
 
-// What a row has for one of its arguments.
+// What a row has for one of its arguments; its byte may name no kind. A null one keeps its value, which is looked at: 14 where it is not 0.
 #[derive(Clone, Copy)]
 pub struct Entry {
-    pub kind: Kind,
+    pub kind: Option<Kind>,
     pub null: bool,
     pub value: u64,
 }
@@ -20,94 +20,61 @@ pub(crate) fn entry_of(byte: u8, value: u64) -> Entry
     Entry {
         kind: kinds::kind_in(byte),
         null: kinds::is_null(byte),
-        value: value,
+        value,
     }
 }
 
-// Whether a value is a signed integer of this width, sign-extended to 64 bits.
-fn is_signed(width: u32, value: u64) -> bool
-    requires { (1 ≤ width) × (width ≤ 64) }
-    ensures { result ≡ within (record { width = width; signed = true }) value }
-{
-    let half = 1u64 << (width - 1);
-    if value < half {
-        return true;
-    }
-    std::num::wrapping_sub_u64(0, half) <= value
-}
-
-// Whether a value is an unsigned integer of this width.
-fn is_unsigned(width: u32, value: u64) -> bool
-    requires { (1 ≤ width) × (width ≤ 64) }
-    ensures { result ≡ within (record { width = width; signed = false }) value }
-{
-    if width < 64 {
-        return value < 1u64 << width;
-    }
-    true
-}
-
+// Whether a value is an integer of this kind: sign-extended to 64 bits, or within its width.
 fn is_within(kind: IntegerKind, value: u64) -> bool
-    requires { HasWidth (Kind.Integer kind) }
+    requires { HasWidth (Some (Kind.Integer kind)) }
     ensures { result ≡ within kind value }
 {
     if kind.signed {
-        return is_signed(kind.width, value);
+        let half = 1u64 << (kind.width - 1);
+        value < half || half.wrapping_neg() <= value
+    } else {
+        kind.width == 64 || value < 1 << kind.width
     }
-    is_unsigned(kind.width, value)
 }
 
 // Whether a value names a part of the text area that is well-formed UTF-8.
 fn is_part(text: &[u8], value: u64) -> bool
-    ensures { result ≡ holds Kind.Text text.now value }
+    ensures { result ≡ holds (Some Kind.Text) text.now value }
 {
     let offset = (value % 4294967296) as usize;
     let len = (value / 4294967296) as usize;
-    if text.len() < offset + len {
-        return false;
-    }
-    utf8::is_well_formed(&text[offset..offset + len])
+    offset + len <= text.len() && utf8::is_well_formed(&text[offset..offset + len])
 }
 
 // Whether a value is one of its kind; text is the row's text area.
-fn is_value(kind: Kind, text: &[u8], value: u64) -> bool
+fn is_value(kind: Option<Kind>, text: &[u8], value: u64) -> bool
     requires { HasWidth kind }
     ensures { result ≡ holds kind text.now value }
 {
     match kind {
-        Kind::Integer(k) => is_within(k, value),
-        Kind::Float64 => true,
-        Kind::Boolean => value <= 1,
-        Kind::Text => is_part(text, value),
-        Kind::Timestamp => true,
-        Kind::NoKind => false,
+        Some(Kind::Integer(k)) => is_within(k, value),
+        Some(Kind::Boolean) => value <= 1,
+        Some(Kind::Text) => is_part(text, value),
+        Some(Kind::Float64 | Kind::Timestamp) => true,
+        None => false,
     }
 }
 
-fn can_be_null(kind: Kind) -> bool
+fn can_be_null(kind: Option<Kind>) -> bool
     ensures { result ≡ can_be_null kind }
 {
-    match kind {
-        Kind::Integer(_) => true,
-        Kind::Float64 => false,
-        Kind::Boolean => true,
-        Kind::Text => false,
-        Kind::Timestamp => false,
-        Kind::NoKind => false,
-    }
+    matches!(kind, Some(Kind::Integer(_) | Kind::Boolean))
 }
 
 // Whether an entry may stand in a row with this text area.
+#[tactic(auto, unfolding(crate::specs::Entry::is_entry))]
 pub(crate) fn is_entry(e: Entry, text: &[u8]) -> bool
     requires { HasWidth e.kind }
     ensures { result ≡ is_entry text.now e }
 {
-    let kind = e.kind;
     if e.null {
-        if e.value == 0 {
-            return can_be_null(kind);
-        }
-        return false;
+        can_be_null(e.kind) && e.value == 0
+    } else {
+        is_value(e.kind, text, e.value)
     }
-    is_value(kind, text, e.value)
 }

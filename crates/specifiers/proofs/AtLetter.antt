@@ -1,4 +1,5 @@
 -- Where a byte from A on stands, no flag, width or precision does. Assumes nothing.
+use Rattle.std.specs.Prelude.{None, Ok}
 use mathlib.Core.Path.{◌≡◌, refl}
 use mathlib.Core.Bool.{true, false}
 use mathlib.Core.List.{List, [], ◌∷◌}
@@ -11,11 +12,9 @@ use borrow.Author.Tests.{leb-true, ne_eqb, le-leb, lt-leb}
 use Rattle.writing.specs.Text.{has}
 use Rattle.writing.proofs.Bytes.{other}
 use Rattle.specifiers.specs.Params.{is_param, param_at}
-use Rattle.numerals.specs.declared.NumericParam.TheVariants.{FromArgument}
 use Rattle.specifiers.specs.Flags.{is_flag, leading_flags, flags_of, first_clash, flags_at}
 use Rattle.specifiers.specs.Specifier.{begins_with, precision_at, parts_at}
-use Rattle.specifiers.specs.Refusals.{begins_letter}
-use Rattle.specifiers.specs.declared.PartsTaken.TheVariants as P
+use Rattle.specifiers.specs.Steps.{begins_letter}
 
 no_flag : (b : ℕ) → code "A" ≤ b → is_flag b ≡ false
 unfolding has
@@ -48,6 +47,6 @@ no_point (b ∷ l) h =
     ne_eqb b (code ".") (λ e. omega arith)
 
 pub no_parts : (s : List ℕ) (at : ℕ) → begins_letter (drop at s) ≡ true
-    → parts_at s at ≡ P.Read (record { flags = flags_of []; width = FromArgument; precision = FromArgument }) at
+    → parts_at s at ≡ Ok ((record { flags = flags_of []; width = None; precision = None }), at)
 unfolding parts_at flags_at first_clash param_at precision_at
 no_parts s at h = simp (no_flags (drop at s) h, add-zero at, no_width (drop at s) h, no_point (drop at s) h)

@@ -1,4 +1,7 @@
 -- Laws of a number that a text begins with, read digit by digit. Assumes nothing.
+use Rattle.std.proofs.Common.{inl, inr}
+use Rattle.std.specs.Char.{IsNotAsciiDigit}
+use Rattle.std.specs.Prelude.{None, Err, Ok}
 use mathlib.Core.Path.{◌≡◌, refl, sym, ap, ◌∙◌}
 use mathlib.Core.Bool.{Bool, false}
 use mathlib.Core.List.{List, [], ◌∷◌}
@@ -16,10 +19,9 @@ use Rattle.writing.specs.Choose.{choose}
 use Rattle.writing.proofs.Choose.{by_test}
 use Rattle.numerals.specs.Digits.{number_from, number_of}
 use Rattle.specifiers.specs.Params.{is_digit, leading_digits, number_taken, number_at, begins_param, is_param, param_of, param_at}
-use Rattle.numerals.specs.declared.NumericParam.TheVariants.{FromArgument}
-use Rattle.specifiers.specs.declared.params.Number.{Number}
-use Rattle.specifiers.specs.declared.params.Number.TheVariants as N
-use Rattle.specifiers.specs.declared.params.Taken.TheVariants.{Param}
+use Rattle.refusals.specs.Numbers.{Parsed}
+use Rattle.refusals.specs.declared.Refusal.{Refusal}
+use Rattle.refusals.specs.declared.Refusal.TheVariants.{LargeNumber}
 
 -- More digits never make a number smaller.
 pub number_grows : (v : ℕ) (ds : List ℕ) → v ≤ number_from 10 v ds
@@ -38,38 +40,38 @@ digits_in (b ∷ l) =
     more h = omega arith
 
 -- What a number says of its digits: their value and the place behind them, or that the value is too large.
-abbrev pub Denotes : ℕ → List ℕ → Number → Type 0
-Denotes at ds (N.Value v next) = (v ≡ number_of 10 ds) × (next ≡ at + length ds) × (v ≤ largest_number)
-Denotes at ds N.TooLarge = largest_number < number_of 10 ds
+abbrev pub Denotes : ℕ → List ℕ → Parsed ℕ → Type 0
+Denotes at ds (Ok (v, next)) = (v ≡ number_of 10 ds) × (next ≡ at + length ds) × (v ≤ largest_number)
+Denotes at ds (Err refusal) = (refusal ≡ LargeNumber) × (largest_number < number_of 10 ds)
 
 taken_denotes : (at : ℕ) (ds : List ℕ) → Denotes at ds (number_taken at ds)
 unfolding number_taken
 taken_denotes at ds =
     by_test (Denotes at ds) (leb (number_of 10 ds) largest_number) _ _
     (λ e. (refl, refl, leb-true (number_of 10 ds) largest_number e))
-    (λ e. leb-false (number_of 10 ds) largest_number e)
+    (λ e. (refl, leb-false (number_of 10 ds) largest_number e))
 
 -- A number is at most the largest, and ends at or behind its place, within the text where it has digits.
-abbrev pub NumberIn : ℕ → ℕ → Number → Type 0
-NumberIn n at (N.Value v next) = (v ≤ largest_number) × (at ≤ next) × (next ≤ max at n)
-NumberIn n at N.TooLarge = Unit {0}
+abbrev pub NumberIn : ℕ → ℕ → Parsed ℕ → Type 0
+NumberIn n at (Ok (v, next)) = (v ≤ largest_number) × (at ≤ next) × (next ≤ max at n)
+NumberIn n at (Err refusal) = Unit {0}
 
 module _ (s : List ℕ) (at : ℕ) where
   pub number-denotes : Denotes at (leading_digits (drop at s)) (number_at s at)
   unfolding number_at
   number-denotes = taken_denotes at (leading_digits (drop at s))
 
-  pub number_large : number_at s at ≡ N.TooLarge → largest_number < number_of 10 (leading_digits (drop at s))
+  pub number_large : {refusal : Refusal} → number_at s at ≡ Err refusal → (refusal ≡ LargeNumber) × (largest_number < number_of 10 (leading_digits (drop at s)))
   number_large e = rw e at number-denotes
 
   pub number_in : NumberIn (length s) at (number_at s at)
   number_in = within (number_at s at) number-denotes
     where
-      within : (x : Number) → Denotes at (leading_digits (drop at s)) x → NumberIn (length s) at x
-      within (N.Value v next) d =
+      within : (x : Parsed ℕ) → Denotes at (leading_digits (drop at s)) x → NumberIn (length s) at x
+      within (Ok (v, next)) d =
           let h : length (leading_digits (drop at s)) ≤ length s - at = rw (← length-drop at s) (digits_in (drop at s)) in
           (omega arith, omega arith, omega arith)
-      within N.TooLarge d = tt
+      within (Err refusal) d = tt
 
 -- The digits from the place at on have the value v up to the place i.
 abbrev pub ReadTo : List ℕ → ℕ → ℕ → ℕ → Type 0
@@ -87,13 +89,16 @@ module _ (s : List ℕ) (i : ℕ) where
   unfolding leading_digits
   end_of_text h = simp (drop_of_length-le s h)
 
-  pub below_digit : i < length s → get_or s i 0 < code "0" → leading_digits (drop i s) ≡ []
+  below_digit : i < length s → get_or s i 0 < code "0" → leading_digits (drop i s) ≡ []
   unfolding leading_digits
   below_digit h m = simp (drop-cons s i 0 h, lt-leb (code "0") (get_or s i 0) m)
 
-  pub above_digit : i < length s → code "9" < get_or s i 0 → leading_digits (drop i s) ≡ []
+  above_digit : i < length s → code "9" < get_or s i 0 → leading_digits (drop i s) ≡ []
   unfolding leading_digits
   above_digit h m = simp (drop-cons s i 0 h, le-leb (code "0") (get_or s i 0) (omega arith), lt-leb (get_or s i 0) (code "9") m)
+
+  pub no_digit : i < length s → IsNotAsciiDigit (get_or s i 0) → leading_digits (drop i s) ≡ []
+  no_digit h m = elim m [ inl b ↦ below_digit h b | inr a ↦ above_digit h a ]
 
   pub digit_at : i < length s → code "0" ≤ get_or s i 0 → get_or s i 0 ≤ code "9"
       → leading_digits (drop i s) ≡ (get_or s i 0 - code "0") ∷ leading_digits (drop (i + 1) s)
@@ -101,7 +106,7 @@ module _ (s : List ℕ) (i : ℕ) where
   digit_at h m n = simp (drop-cons s i 0 h, le-leb (code "0") (get_or s i 0) m, le-leb (get_or s i 0) (code "9") n, add-one)
 
   module _ (at v : ℕ) (r : ReadTo s at i v) where
-    pub read-end : leading_digits (drop i s) ≡ [] → v ≤ largest_number → N.Value v i ≡ number_at s at
+    pub read-end : leading_digits (drop i s) ≡ [] → v ≤ largest_number → Ok (v, i) ≡ number_at s at
     unfolding number_at number_taken number_from
     read-end e h =
         let n : v ≡ number_of 10 (leading_digits (drop at s)) = sym (ap (number_from 10 v) e) ∙ r.0 in
@@ -116,7 +121,7 @@ module _ (s : List ℕ) (i : ℕ) where
         (sym (ap (number_from 10 v) e) ∙ r.0, omega (arith, ap length e))
 
     pub read_large : i < length s → code "0" ≤ get_or s i 0 → get_or s i 0 ≤ code "9" → largest_number < v * 10 + (get_or s i 0 - code "0")
-        → N.TooLarge ≡ number_at s at
+        → Err LargeNumber ≡ number_at s at
     unfolding number_at number_taken
     read_large h m n g =
         let l = number_grows (v * 10 + (get_or s i 0 - code "0")) (leading_digits (drop (i + 1) s)) in
@@ -126,13 +131,13 @@ module _ (s : List ℕ) (i : ℕ) where
 -- A parameter at a place: digits that may begin one, or none.
 module _ (zero : Bool) (s : List ℕ) (at : ℕ) where
   param_by : (t : Bool) → is_param zero (drop at s) ≡ t
-      → choose t (λ _. param_of (number_at s at)) (λ _. Param FromArgument at) ≡ param_at zero s at
+      → choose t (λ _. param_of (number_at s at)) (λ _. Ok (None, at)) ≡ param_at zero s at
   unfolding param_at
   param_by t e = rw e
 
   pub param_at_lem : (t : Bool) → at < length s → t ≡ begins_param zero (get_or s at 0)
-      → choose t (λ _. param_of (number_at s at)) (λ _. Param FromArgument at) ≡ param_at zero s at
+      → choose t (λ _. param_of (number_at s at)) (λ _. Ok (None, at)) ≡ param_at zero s at
   param_at_lem t h e = param_by t (ap (is_param zero) (drop-cons s at 0 h) ∙ sym e)
 
-  pub param_past : length s ≤ at → Param FromArgument at ≡ param_at zero s at
+  pub param_past : length s ≤ at → Ok (None, at) ≡ param_at zero s at
   param_past h = param_by false (ap (is_param zero) (drop_of_length-le s h))

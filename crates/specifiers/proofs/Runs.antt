@@ -1,8 +1,8 @@
 -- How the flags go on at a place of the format. Assumes nothing.
-use mathlib.Core.Path.{◌≡◌, refl, ap, ◌∙◌}
+use Rattle.std.specs.Prelude.{Option, None, Some, Ok, Result, Err}
+use mathlib.Core.Path.{◌≡◌, refl, ap}
 use mathlib.Core.Bool.{Bool, true, false, ◌||◌, or-true}
 use mathlib.Core.List.{List, [], ◌∷◌, ◌++◌, append_assoc, append-nil}
-use mathlib.Core.Option.{Option, none, some}
 use Prim.Native.Nat.{ℕ, ◌+◌, ◌≤◌, ◌<◌}
 use native.Mathlib.Omega.{arith}
 use lib.Dec.{eqb}
@@ -10,14 +10,10 @@ use lib.ListN.{length, get_or, drop, length-append}
 use Rattle.writing.specs.Choose.{choose}
 use Rattle.writing.specs.Text.{has}
 use Rattle.specifiers.specs.Flags.{is_flag, leading_flags, flags_of, clash, first_clash, flags_taken, flags_at}
-use Rattle.specifiers.specs.Steps.{unless_clash, step_of, StopHanded}
+use Rattle.specifiers.specs.Steps.{unless_clash, step_of}
 use Rattle.specifiers.specs.declared.flags.Flags.{Flags}
-use Rattle.specifiers.specs.declared.flags.FlagStep.{FlagStep}
-use Rattle.specifiers.specs.declared.flags.FlagStep.TheVariants.{Set, Stops}
-use Rattle.specifiers.specs.declared.flags.FlagStop.TheVariants.{NoFlag}
-use Rattle.specifiers.specs.declared.flags.FlagsTaken.{FlagsTaken}
-use Rattle.specifiers.specs.declared.flags.FlagsTaken.TheVariants.{Read}
 use Rattle.writing.proofs.Bytes.{byte_at, no_byte}
+use Rattle.refusals.specs.declared.Refusal.{Refusal}
 
 -- one byte more
 pub has_more : (bs : List ℕ) (b c : ℕ) → has (bs ++ (b ∷ [])) c ≡ (eqb b c || has bs c)
@@ -40,32 +36,33 @@ pub flags-none : (s : List ℕ) (at : ℕ) → FlagsTo s at at (flags_of [])
 unfolding flags_at
 flags-none s at = record { before = []; said = refl; place = omega arith; rest = refl }
 
--- What holds behind a step at i: one flag more is read, or what the flags stop with is their answer.
-abbrev pub Turned : List ℕ → ℕ → ℕ → Flags → FlagStep → Type 0
-Turned s at i f (Set g) = FlagsTo s at (i + 1) g
-Turned s at i f (Stops stop) = (r : FlagsTaken) → StopHanded (Stops stop) f i r → r ≡ flags_at s at
+-- What holds behind a step at i: one flag more is read, or the flags end there, or their clash is the answer.
+abbrev pub Turned : List ℕ → ℕ → ℕ → Flags → Result (Option Flags) Refusal → Type 0
+Turned s at i f (Ok (Some g)) = FlagsTo s at (i + 1) g
+Turned s at i f (Ok None) = Ok (f, i) ≡ flags_at s at
+Turned s at i f (Err refusal) = Err refusal ≡ flags_at s at
 
 module _ (s : List ℕ) (at i : ℕ) (f : Flags) (to : FlagsTo s at i f) where
-  no_more : leading_flags (drop i s) ≡ [] → Read f i ≡ flags_at s at
+  no_more : leading_flags (drop i s) ≡ [] → Ok (f, i) ≡ flags_at s at
   unfolding first_clash
   no_more e = simp (to.said, to.place) (simp (e, append-nil) at to.rest)
 
-  pub flags-end : length s ≤ i → Read f i ≡ flags_at s at
+  pub flags-end : length s ≤ i → Ok (f, i) ≡ flags_at s at
   unfolding leading_flags
   flags-end h = no_more (ap leading_flags (no_byte s i h))
 
-  pub flags_turn : i < length s → (step : FlagStep) → step ≡ step_of to.before (get_or s i 0) → Turned s at i f step
+  pub flags_turn : i < length s → (step : Result (Option Flags) Refusal) → step ≡ step_of to.before (get_or s i 0) → Turned s at i f step
   unfolding leading_flags first_clash
   flags_turn h step e = rw e (go (get_or s i 0) (byte_at s i h) _ _ refl refl)
     where
-      go : (b : ℕ) → drop i s ≡ b ∷ drop (i + 1) s → (t : Bool) (x : Option ℕ) → is_flag b ≡ t → clash to.before b ≡ x
-          → Turned s at i f (choose t (λ _. unless_clash x (flags_of (to.before ++ (b ∷ [])))) (λ _. Stops NoFlag))
-      go b d false x p q = λ r k. k ∙ no_more (simp (d, p))
-      go b d true none p q =
+      go : (b : ℕ) → drop i s ≡ b ∷ drop (i + 1) s → (t : Bool) (x : Option Refusal) → is_flag b ≡ t → clash to.before b ≡ x
+          → Turned s at i f (choose t (λ _. unless_clash x (flags_of (to.before ++ (b ∷ [])))) (λ _. Ok None))
+      go b d false x p q = no_more (simp (d, p))
+      go b d true None p q =
           record {
             before = to.before ++ (b ∷ []);
             said = refl;
             place = rw length-append (omega (arith, to.place));
             rest = rw append_assoc (simp (d, p, q) at to.rest);
           }
-      go b d true (some number) p q = λ r k. k ∙ (simp (d, p, q) at to.rest)
+      go b d true (Some refusal) p q = simp (d, p, q) at to.rest

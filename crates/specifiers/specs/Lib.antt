@@ -2,4 +2,3 @@ pub mod Flags
 pub mod Steps
 pub mod Params
 pub mod Specifier
-pub mod Refusals

@@ -1,15 +1,11 @@
 -- A width, precision or index as a format writes it: a run of decimal digits.
-use Rattle.std.specs.Prelude.{ℕ, ◌+◌, ◌-◌, Bool, false, not, ◌&&◌, ◌||◌, List, [], ◌∷◌, leb, eqb, length, drop}
+use Rattle.std.specs.Prelude.{ℕ, ◌+◌, Ok, Err, ◌-◌, Bool, false, not, ◌&&◌, ◌||◌, List, [], ◌∷◌, leb, eqb, length, drop, None, Option, Some}
 use Prim.Native.Char.{code}
 use Rattle.refusals.specs.Limits.{largest_number}
+use Rattle.refusals.specs.Numbers.{Parsed}
+use Rattle.refusals.specs.declared.Refusal.TheVariants.{LargeNumber}
 use Rattle.writing.specs.Choose.{choose}
 use Rattle.numerals.specs.Digits.{number_of}
-use Rattle.numerals.specs.declared.NumericParam.{NumericParam}
-use Rattle.numerals.specs.declared.NumericParam.TheVariants.{Literal, FromArgument}
-use Rattle.specifiers.specs.declared.params.Number.{Number}
-use Rattle.specifiers.specs.declared.params.Number.TheVariants as N
-use Rattle.specifiers.specs.declared.params.Taken.{Taken}
-use Rattle.specifiers.specs.declared.params.Taken.TheVariants.{Param, TooLarge}
 
 abbrev pub is_digit : ℕ → Bool
 is_digit c = leb (code "0") c && leb c (code "9")
@@ -29,22 +25,22 @@ is_param zero [] = false
 is_param zero (c ∷ cs) = begins_param zero c
 
 -- The number of the digits that stand in the text s from the place at on, and the place behind them. 01: "number above 2,147,483,647" is refused.
-unfoldable pub number_taken : ℕ → List ℕ → Number
+unfoldable pub number_taken : ℕ → List ℕ → Parsed ℕ
 number_taken at ds =
-    choose (leb (number_of 10 ds) largest_number) (λ _. N.Value (number_of 10 ds) (at + length ds)) (λ _. N.TooLarge)
+    choose (leb (number_of 10 ds) largest_number) (λ _. Ok (number_of 10 ds, at + length ds)) (λ _. Err LargeNumber)
 
-unfoldable pub number_at : List ℕ → ℕ → Number
+unfoldable pub number_at : List ℕ → ℕ → Parsed ℕ
 number_at s at = number_taken at (leading_digits (drop at s))
 
 -- The parameter that stands there.
-abbrev pub param_of : Number → Taken
-param_of (N.Value n next) = Param (Literal n) next
-param_of N.TooLarge = TooLarge
+abbrev pub param_of : Parsed ℕ → Parsed (Option ℕ)
+param_of (Ok (n, next)) = Ok (Some n, next)
+param_of (Err r) = Err r
 
-unfoldable pub param_at : Bool → List ℕ → ℕ → Taken
-param_at zero s at = choose (is_param zero (drop at s)) (λ _. param_of (number_at s at)) (λ _. Param FromArgument at)
+unfoldable pub param_at : Bool → List ℕ → ℕ → Parsed (Option ℕ)
+param_at zero s at = choose (is_param zero (drop at s)) (λ _. param_of (number_at s at)) (λ _. Ok (None, at))
 
 -- A width that is absent pads nothing.
-abbrev pub width_of : NumericParam → ℕ
-width_of FromArgument = 0
-width_of (Literal w) = w
+abbrev pub width_of : Option ℕ → ℕ
+width_of None = 0
+width_of (Some w) = w

@@ -3,90 +3,43 @@
 ghost use Rattle.std.specs.Prelude.{◌≡◌, ◌+◌, length, drop};
 ghost use Rattle.specifiers.specs.Params.{begins_param, leading_digits, number_at, param_at, width_of};
 
-use numerals::NumericParam;
-
-// The answer of take_number: the number and the place behind its digits, or a number above the largest.
-#[derive(Clone, Copy)]
-pub enum Number {
-    Value { value: u32, next: usize },
-    TooLarge,
-}
-
-// The answer of take_numeric_param: the parameter and the place behind it, or a number above the largest.
-#[derive(Clone, Copy)]
-pub enum Taken {
-    Param { param: NumericParam, next: usize },
-    TooLarge,
-}
+use refusals::{Parsed, Refusal};
 
 // Whether a byte begins a parameter: a digit, and 0 only where zero is set.
 fn begins_param(b: u8, zero: bool) -> bool
     ensures { result ≡ begins_param zero b }
 {
-    if b < b'0' {
-        return false;
-    }
-    if b'9' < b {
-        return false;
-    }
-    if b == b'0' {
-        return zero;
-    }
-    true
+    b.is_ascii_digit() && (zero || b != b'0')
 }
 
 // The number of the digits of s from the place at on.
-pub fn take_number(s: &[u8], at: usize) -> Number
+pub fn take_number(s: &[u8], at: usize) -> Parsed<u32>
     ensures { result ≡ number_at s.now at }
 {
     let mut i = at;
     let mut value: u32 = 0;
-    while i < s.len() {
-        let b = s[i];
-        if b < b'0' {
-            return Number::Value {
-                value: value,
-                next: i,
-            };
-        }
-        if b'9' < b {
-            return Number::Value {
-                value: value,
-                next: i,
-            };
-        }
-        let digit = (b - b'0') as u32;
+    while i < s.len() && s[i].is_ascii_digit() {
+        let digit = u32::from(s[i] - b'0');
         if (refusals::LARGEST_NUMBER - digit) / 10 < value {
-            return Number::TooLarge;
+            return Err(Refusal::LargeNumber);
         }
         value = value * 10 + digit;
-        i = i + 1;
+        i += 1;
     }
-    Number::Value {
-        value: value,
-        next: i,
-    }
+    Ok((value, i))
 }
 
-// The parameter that stands in s from the place at on; a first digit 0 counts only where zero is set. Nothing is read past its digits.
-pub(crate) fn take_numeric_param(s: &[u8], at: usize, zero: bool) -> Taken
+// The width or precision that stands in s from the place at on, None where it is absent; a first digit 0 counts only where zero is set. Nothing is read past
+// its digits.
+#[tactic(auto, using(crate::proofs::Numbers::param_at_lem, crate::proofs::Numbers::param_past), unfolding(crate::specs::Params::param_at))]
+pub(crate) fn take_numeric_param(s: &[u8], at: usize, zero: bool) -> Parsed<Option<u32>>
     ensures { result ≡ param_at zero s.now at }
 {
-    if at < s.len() {
-        if begins_param(s[at], zero) {
-            let Number::Value { value, next } = take_number(s, at) else {
-                return Taken::TooLarge;
-            };
-            return Taken::Param {
-                param: NumericParam::Literal(value),
-                next: next,
-            };
-        }
+    if at < s.len() && begins_param(s[at], zero) {
+        let (value, next) = take_number(s, at)?;
+        return Ok((Some(value), next));
     }
-    Taken::Param {
-        param: NumericParam::FromArgument,
-        next: at,
-    }
+    Ok((None, at))
 }
 
 // The place behind the digits that stand in s from the place at on.
@@ -94,24 +47,14 @@ pub fn digits_end(s: &[u8], at: usize) -> usize
     ensures { result ≡ at + length (leading_digits (drop at s.now)) }
 {
     let mut end = at;
-    while end < s.len() {
-        let byte = s[end];
-        if byte < b'0' {
-            return end;
-        }
-        if b'9' < byte {
-            return end;
-        }
-        end = end + 1;
+    while end < s.len() && s[end].is_ascii_digit() {
+        end += 1;
     }
     end
 }
 
-pub fn width_of(width: NumericParam) -> u32
+pub fn width_of(width: Option<u32>) -> u32
     ensures { result ≡ width_of width }
 {
-    match width {
-        NumericParam::Literal(w) => w,
-        NumericParam::FromArgument => 0,
-    }
+    width.unwrap_or(0)
 }

@@ -42,3 +42,5 @@ module _ (c : ℕ) where
                   ]
             ]
       ]
+
+pub ruleset by_range = (one, two, three, four)

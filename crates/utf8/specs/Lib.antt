@@ -1,3 +1,2 @@
 pub mod Scalars
 pub mod Utf8
-pub mod Largest

@@ -4,142 +4,95 @@
 pub mod scalars;
 
 ghost use Rattle.std.specs.Prelude.{◌≡◌, ◌≤◌, ◌<◌, max};
+ghost use Rattle.std.specs.List.{fold};
 ghost use Rattle.utf8.specs.Utf8.{lead_of, well_formed};
-ghost use Rattle.utf8.specs.Largest.{largest_of};
 
-// What follows a first byte: how many bytes, and the range of the next one.
+// What follows: how many bytes, and the range of the next one.
 #[derive(Clone, Copy)]
-pub enum Lead {
-    Follow { need: u8, low: u8, high: u8 },
-    NoLead,
+pub struct Follow {
+    pub need: u8,
+    pub low: u8,
+    pub high: u8,
 }
 
-fn follow(need: u8, low: u8, high: u8) -> Lead
-    ensures { result ≡ Lead.Follow need low high }
-{
-    Lead::Follow {
-        need: need,
-        low: low,
-        high: high,
+impl Follow {
+    fn new(need: u8, low: u8, high: u8) -> Follow
+        ensures { result ≡ record { need = need; low = low; high = high } }
+    {
+        Follow { need, low, high }
     }
 }
 
-// The row of table 3-7 that a first byte stands in.
-fn lead_of(b: u8) -> Lead
+// The row of table 3-7 that a first byte stands in. Three functions: one match of all rows is compiled to a jump before ASCII is asked for.
+#[tactic(auto, unfolding(crate::specs::Utf8::lead_of))]
+fn lead_of(b: u8) -> Option<Follow>
     ensures { result ≡ lead_of b }
 {
-    if b < 0x80 {
-        return follow(0, 0x80, 0xbf);
+    match b {
+        0x00..=0x7f => Some(Follow::new(0, 0x80, 0xbf)),
+        0x80..=0xc1 => None,
+        0xc2..=0xdf => Some(Follow::new(1, 0x80, 0xbf)),
+        0xe0..=0xef => lead_of_three(b),
+        _ => lead_of_four(b),
     }
-    if b < 0xc2 {
-        return Lead::NoLead;
-    }
-    if b < 0xe0 {
-        return follow(1, 0x80, 0xbf);
-    }
-    if b < 0xf0 {
-        return lead_of_three(b);
-    }
-    lead_of_four(b)
 }
 
 // .. of three bytes
-fn lead_of_three(b: u8) -> Lead
+#[tactic(auto, unfolding(crate::specs::Utf8::lead_of))]
+fn lead_of_three(b: u8) -> Option<Follow>
     requires { (0xe0 ≤ b) × (b < 0xf0) }
     ensures { result ≡ lead_of b }
 {
-    if b == 0xe0 {
-        return follow(2, 0xa0, 0xbf);
+    match b {
+        0xe0 => Some(Follow::new(2, 0xa0, 0xbf)),
+        0xed => Some(Follow::new(2, 0x80, 0x9f)),
+        _ => Some(Follow::new(2, 0x80, 0xbf)),
     }
-    if b == 0xed {
-        return follow(2, 0x80, 0x9f);
-    }
-    follow(2, 0x80, 0xbf)
 }
 
 // .. of four bytes
-fn lead_of_four(b: u8) -> Lead
+#[tactic(auto, unfolding(crate::specs::Utf8::lead_of))]
+fn lead_of_four(b: u8) -> Option<Follow>
     requires { 0xf0 ≤ b }
     ensures { result ≡ lead_of b }
 {
-    if b == 0xf0 {
-        return follow(3, 0x90, 0xbf);
+    match b {
+        0xf0 => Some(Follow::new(3, 0x90, 0xbf)),
+        0xf1..=0xf3 => Some(Follow::new(3, 0x80, 0xbf)),
+        0xf4 => Some(Follow::new(3, 0x80, 0x8f)),
+        _ => None,
     }
-    if b == 0xf4 {
-        return follow(3, 0x80, 0x8f);
-    }
-    if 0xf4 < b {
-        return Lead::NoLead;
-    }
-    follow(3, 0x80, 0xbf)
-}
-
-fn larger(a: u8, b: u8) -> u8
-    ensures { result ≡ max a b }
-{
-    if a < b {
-        return b;
-    }
-    a
-}
-
-// The largest byte. The loop has no way out, so that it can be compiled to operations on blocks.
-fn largest(s: &[u8]) -> u8
-    ensures { result ≡ largest_of s.now }
-{
-    let mut top: u8 = 0;
-    let mut i = 0;
-    while i < s.len() {
-        top = larger(top, s[i]);
-        i = i + 1;
-    }
-    top
 }
 
 // Whether s is well-formed UTF-8, byte by byte.
 fn follows_table(s: &[u8]) -> bool
     ensures { result ≡ well_formed s.now }
 {
-    let mut need: u8 = 0;
-    let mut low: u8 = 0x80;
-    let mut high: u8 = 0xbf;
-    let mut i = 0;
-    while i < s.len() {
-        let b = s[i];
-        if need == 0 {
-            let Lead::Follow {
-                need: n,
-                low: l,
-                high: h,
-            } = lead_of(b)
-            else {
-                return false;
-            };
-            need = n;
-            low = l;
-            high = h;
+    let mut next = Follow::new(0, 0x80, 0xbf);
+    for &b in s {
+        if next.need == 0 {
+            let Some(lead) = lead_of(b) else { return false };
+            next = lead;
+        } else if (next.low..=next.high).contains(&b) {
+            next = Follow::new(next.need - 1, 0x80, 0xbf);
         } else {
-            if b < low {
-                return false;
-            }
-            if high < b {
-                return false;
-            }
-            need = need - 1;
-            low = 0x80;
-            high = 0xbf;
+            return false;
         }
-        i = i + 1;
     }
-    need == 0
+    next.need == 0
+}
+
+// The largest byte, 0 of none: no way out, so that it can be compiled to operations on blocks. Not is_ascii, whose call takes 3 % of a short row.
+fn largest(s: &[u8]) -> u8
+    ensures { result ≡ fold max 0 s.now }
+{
+    s.iter().fold(0, |top, b| (*b).max(top))
 }
 
 // Whether s is well-formed UTF-8. Most texts are ASCII, which one quick pass shows.
+#[tactic(auto, using(crate::proofs::Laws::ascii_below))]
 pub fn is_well_formed(s: &[u8]) -> bool
     ensures { result ≡ well_formed s.now }
 {
-    if largest(s) < 0x80 {
-        return true;
-    }
-    follows_table(s)
+    largest(s) < 0x80 || follows_table(s)
 }

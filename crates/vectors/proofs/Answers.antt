@@ -1,4 +1,5 @@
 -- What printing's contract says of what a call left, for what a record states. Assumes nothing.
+use Rattle.std.specs.Prelude.{Ok, Err}
 use mathlib.Core.Path.{◌≡◌, sym, ap, ◌∙◌}
 use mathlib.Core.Bool.{Bool}
 use mathlib.Core.List.{List}
@@ -9,9 +10,7 @@ use lib.Seq.{take_at, length-take-le}
 use Rattle.writing.specs.Laid.{laid}
 use Rattle.parsing.specs.Listed.{placed}
 use Rattle.rows.specs.Row.{kinds_of}
-use Rattle.outcomes.specs.Printed.{texts, printed_text, ends_from, printed, written}
-use Rattle.outcomes.specs.declared.Outcome.{Outcome}
-use Rattle.outcomes.specs.declared.Outcome.TheVariants.{Accepted, Refused}
+use Rattle.outcomes.specs.Printed.{Outcome, texts, printed_text, ends_from, printed, written}
 use Rattle.outcomes.proofs.Accepted.{Accepts, fitted}
 use Rattle.outcomes.proofs.Joined.{ends_length}
 use Rattle.outcomes.proofs.Texts.{texts-length}
@@ -22,10 +21,10 @@ use Rattle.vectors.specs.Left.{states_left, InRoom}
 
 -- What a call accepts lies in the slices that it was lent, m bytes and n ends.
 pub in_room : (f r : List ℕ) (o : Outcome) (room slots m n : ℕ) → o ≡ printed f r room slots → room ≡ m → slots ≡ n → InRoom o m n
-in_room f r (Accepted len k) room slots m n e p q =
-    let t = fitted f r room slots len k (sym e) in
+in_room f r (Ok x) room slots m n e p q =
+    let t = fitted f r room slots x (sym e) in
     (omega (arith, t.bytes, p), omega (arith, t.slots_enough, q))
-in_room f r (Refused number place) room slots m n e p q = tt
+in_room f r (Err x) room slots m n e p q = tt
 
 -- The first n bytes and k ends are as many.
 pub as_long : (s : List ℕ) (stated : Stated) (out ends : List ℕ) (n k : ℕ) (b : Bool) → n ≤ length out → k ≤ length ends
@@ -49,11 +48,11 @@ as_many f r n k a = ends_length 0 (texts f r) ∙ texts-length f r (placed f (ki
 pub left_right : (s : List ℕ) (stated : Stated) (f r d e out ends : List ℕ) (o : Outcome) → o ≡ printed f r 2048 512
     → out ≡ written o d (printed_text f r) → ends ≡ written o e (ends_from 0 (texts f r))
     → states_left s stated out ends o ≡ states_outcome s stated (printed_text f r) (ends_from 0 (texts f r)) (printed f r 2048 512)
-left_right s stated f r d e out ends (Accepted n k) p q w =
+left_right s stated f r d e out ends (Ok m) p q w =
     let t = printed_text f r in
     let u = ends_from 0 (texts f r) in
-    let a = (fitted f r 2048 512 n k (sym p)).accepts in
-    ap (λ (x : List ℕ). states_printed s stated n k x (take k ends)) (ap (take n) q ∙ front d t n (sym a.total))
-    ∙ ap (λ (x : List ℕ). states_printed s stated n k t x) (ap (take k) w ∙ front e u k (as_many f r n k a))
+    let a = (fitted f r 2048 512 m (sym p)).accepts in
+    ap (λ (x : List ℕ). states_printed s stated m.length m.pieces x (take m.pieces ends)) (ap (take m.length) q ∙ front d t m.length (sym a.total))
+    ∙ ap (λ (x : List ℕ). states_printed s stated m.length m.pieces t x) (ap (take m.pieces) w ∙ front e u m.pieces (as_many f r m.length m.pieces a))
     ∙ ap (states_outcome s stated t u) p
-left_right s stated f r d e out ends (Refused number place) p q w = ap (states_outcome s stated (printed_text f r) (ends_from 0 (texts f r))) p
+left_right s stated f r d e out ends (Err x) p q w = ap (states_outcome s stated (printed_text f r) (ends_from 0 (texts f r))) p

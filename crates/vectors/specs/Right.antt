@@ -1,25 +1,24 @@
 -- Whether a record states what the definitions give: `checked` of its format and kinds, or what its row prints under its format into 2,048 bytes and
 -- 512 ends.
-use Rattle.std.specs.Prelude.{ℕ, Bool, List}
+use Rattle.std.specs.Prelude.{ℕ, Bool, List, Result, Ok, Err}
 use Rattle.writing.specs.Choose.{choose}
 use Rattle.parsing.specs.Check.{checked}
 use Rattle.parsing.specs.declared.Checked.{Checked}
-use Rattle.parsing.specs.declared.Checked.TheVariants as C
-use Rattle.outcomes.specs.Printed.{texts, printed_text, ends_from, printed}
-use Rattle.outcomes.specs.declared.Outcome.{Outcome}
-use Rattle.outcomes.specs.declared.Outcome.TheVariants.{Accepted, Refused}
+use Rattle.outcomes.specs.Printed.{Outcome, texts, printed_text, ends_from, printed}
+use Rattle.refusals.specs.Numbers.{refusal_number}
 use Rattle.records.specs.Comparing.{states_accepted, states_refused, states_printed}
 use Rattle.records.specs.declared.statements.Stated.{Stated}
 use Rattle.records.specs.Records.{format_of, values_of}
 use Rattle.records.specs.declared.Record.{Record}
+use Rattle.refusals.specs.declared.Stop.{Stop}
 
-abbrev pub states_checked : Stated → Checked → Bool
-states_checked stated (C.Accepted pieces largest) = states_accepted stated pieces largest
-states_checked stated (C.Refused number place) = states_refused stated number place
+abbrev pub states_checked : Stated → Result Checked Stop → Bool
+states_checked stated (Ok found) = states_accepted stated found.pieces found.largest
+states_checked stated (Err t) = states_refused stated (refusal_number t.refusal) t.place
 
 abbrev pub states_outcome : List ℕ → Stated → List ℕ → List ℕ → Outcome → Bool
-states_outcome s stated text ends (Accepted length pieces) = states_printed s stated length pieces text ends
-states_outcome s stated text ends (Refused number place) = states_refused stated number place
+states_outcome s stated text ends (Ok m) = states_printed s stated m.length m.pieces text ends
+states_outcome s stated text ends (Err t) = states_refused stated (refusal_number t.refusal) t.place
 
 unfoldable pub checks_right : List ℕ → Record → Bool
 checks_right s r = states_checked r.stated (checked (format_of s r) (values_of s r))

@@ -7,7 +7,7 @@ use native.Mathlib.Nat.{le_of_eq, zero-add}
 use native.Mathlib.Numerals.{add-one}
 use native.Mathlib.Omega.{arith}
 use lib.Dec.{leb}
-use lib.ListN.{length, get_or, take, drop, set, replicate, length-append, length-drop, length-replicate, drop_of_length-le, replicate-append-replicate}
+use lib.ListN.{length, get_or, take, drop, set, length-append, length-drop, drop_of_length-le}
 use lib.Seq.{drop-cons, take_at, take-append_seam, drop-append_seam, drop-drop, take-suc, length-take-le, set_at, take_all, sets, sets-eq}
 use borrow.Author.Tests.{le-leb, lt-leb}
 use borrow.Rule.Slice.PartMut.{put_mid, mid_of}
@@ -43,14 +43,11 @@ pub laid_stores : (d t : List ℕ) → length t ≤ length d → sets d 0 t ≡ 
 unfolding laid
 laid_stores d t h = let k : 0 + length t ≤ length d = omega arith in sets-eq t d 0 k ∙ simp zero-add
 
--- a turn of a copy, and of a fill
+-- a turn of a copy
 pub copy_step : (d s : List ℕ) (i : ℕ) → i < length s → length s ≤ length d → set (laid d (take i s)) i (get_or s i 0) ≡ laid d (take (i + 1) s)
 copy_step d s i h k =
     laid_more d (take i s) i (get_or s i 0) (length-take-le i s (omega arith)) (omega arith)
     ∙ ap (laid d) (sym (take-suc s i 0 h) ∙ ap (λ (n : ℕ). take n s) (sym (add-one i)))
-
-pub fill_step : (d : List ℕ) (i b : ℕ) → i < length d → set (laid d (replicate i b)) i b ≡ laid d (replicate (i + 1) b)
-fill_step d i b h = laid_more d (replicate i b) i b (length-replicate i b) h ∙ ap (laid d) (replicate-append-replicate i 1 b)
 
 -- a text after a text, at the place where the first ends
 laid_on : (d t u : List ℕ) (n : ℕ) → length t ≡ n → take n (laid d t) ++ laid (drop n (laid d t)) u ≡ laid d (t ++ u)
@@ -87,3 +84,6 @@ none-laid d = laid-room d [] (omega arith) ∙ laid_none d
 pub wrote_start : (d t out : List ℕ) (n : ℕ) → Wrote d t n out → take n out ≡ t
 unfolding laid
 wrote_start d t out n w = ap (take n) w.1 ∙ take_at t (drop (length t) d) n (sym w.0)
+
+-- what the writers of this crate need of them
+pub ruleset rooms = (laid-first, laid-room, laid_no_room)

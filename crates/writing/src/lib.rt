@@ -1,34 +1,30 @@
 // Writers of bytes into the start of a lent slice. What lies past the text keeps its content.
-#![tactic(auto)]
+#![tactic(auto, using(crate::proofs::Laid::rooms), unfolding(crate::specs::Laid::laid))]
 
 ghost use Rattle.std.specs.Prelude.{◌≡◌, [], ◌∷◌, ◌≤◌, length, replicate};
 ghost use Rattle.writing.specs.Laid.{laid};
 ghost use Rattle.writing.specs.Writers.{Wrote, Put};
 
-// Copies the text. Answers its length.
+// Copies the text. Answers its length. Not by copy_from_slice: its call, also for an empty text, takes 3 % of a short row.
 pub fn write_text(out: &mut [u8], text: &[u8]) -> usize
     requires { length text.now ≤ length out.old }
     ensures { Wrote out.old text.now result out.new }
 {
-    let mut i = 0;
-    while i < text.len() {
-        out[i] = text[i];
-        i = i + 1;
+    for (i, &b) in text.iter().enumerate() {
+        out[i] = b;
     }
-    i
+    text.len()
 }
 
-// Writes the byte b n times. Answers n.
+// Writes the byte b n times. Answers n. Not by fill: with it some callers are no longer compiled into theirs, which takes 3 % of a short row.
 pub fn write_fill(out: &mut [u8], n: usize, b: u8) -> usize
     requires { n ≤ length out.old }
     ensures { (result ≡ n) × (out.new ≡ laid out.old (replicate n b)) }
 {
-    let mut i = 0;
-    while i < n {
-        out[i] = b;
-        i = i + 1;
+    for x in &mut out[..n] {
+        *x = b;
     }
-    i
+    n
 }
 
 // Copies the text where there is room for it. Answers its length.
@@ -45,8 +41,8 @@ pub fn put_text(out: &mut [u8], text: &[u8]) -> usize
 pub fn put_byte(out: &mut [u8], b: u8) -> usize
     ensures { Put out.old (b ∷ []) result out.new }
 {
-    if 0 < out.len() {
-        out[0] = b;
+    if let Some(first) = out.first_mut() {
+        *first = b;
     }
     1
 }

@@ -1,20 +1,12 @@
--- `answers::write_answer` meets its contract. Assumes nothing.
-use mathlib.Core.Path.{sym}
-use lib.Seq.{take_all, length-take-le}
-use native.Mathlib.Omega.{arith}
+-- `answers::write_answer` meets its contract: an input is looked at up to its most bytes. Assumes nothing.
+use Rattle.std.proofs.Common.{◌≡◌, min, length, arith}
+use Rattle.std.proofs.lemmas.List.{take_min}
 use Rattle.answers.specs.Answers.{most_input, sheet_text}
 use Rattle.answers.proofs.write_answer.Goals as goal
-
-pub slice_bounds-write_parts-end : goal.slice_bounds-write_parts-end
-slice_bounds-write_parts-end c =
-    sym (length-take-le most_input c.args.input.now (omega (arith, c.if-input-gt65536.true)))
-
-pub returns-then-input-gt65536 : goal.returns-then-input-gt65536
-unfolding sheet_text
-returns-then-input-gt65536 c = c.write_parts.ensures
 
 pub returns : goal.returns
 unfolding sheet_text
 returns c =
     let s = c.args.input.now in
-    rw (take_all most_input s (omega (arith, c.if-input-gt65536.false))) c.write_parts-2.ensures
+    let n : c.min.result ≡ min most_input (length s) = omega (arith, c.min.ensures) in
+    rw (← take_min most_input s, ← n) c.write_parts.ensures

@@ -10,11 +10,11 @@ at_least_one p n = max-eq_left (omega arith)
 
 pub returns-then-p-eq0 : goal.returns-then-p-eq0
 returns-then-p-eq0 c =
-    simp (c.in-Literal.is, c.if-p-eq0.true) c.with_precision.ensures
+    simp (c.in-Some.is, c.if-p-eq0.true) c.with_precision.ensures
 
-pub returns-in-FromArgument : goal.returns-in-FromArgument
-returns-in-FromArgument c = simp c.in-FromArgument.is c.trimmed.ensures
+pub returns-in-None : goal.returns-in-None
+returns-in-None c = simp c.in-None.is c.trimmed.ensures
 
 pub returns-else-p-eq0 : goal.returns-else-p-eq0
 returns-else-p-eq0 c =
-    simp (c.in-Literal.is, at_least_one _ c.if-p-eq0.false) c.with_precision-in-Literal.ensures
+    simp (c.in-Some.is, at_least_one _ c.if-p-eq0.false) c.with_precision-in-Some.ensures

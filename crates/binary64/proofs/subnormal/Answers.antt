@@ -13,11 +13,11 @@ normal-requires c =
 pub returns-then-p-lt13 : goal.returns-then-p-lt13
 returns-then-p-lt13 c =
     let e = c.to_parts-parts.ensures in
-    simp (c.in-Literal.is, lt-ltb _ _ c.if-p-lt13.true, ← c.scale_up.ensures, ← e.1, ← e.2) c.normal.ensures
+    simp (c.in-Some.is, lt-ltb _ _ c.if-p-lt13.true, ← c.scale_up.ensures, ← e.1, ← e.2) c.normal.ensures
 
-pub returns-in-FromArgument : goal.returns-in-FromArgument
-returns-in-FromArgument c = simp c.in-FromArgument.is c.unscaled.ensures
+pub returns-in-None : goal.returns-in-None
+returns-in-None c = simp c.in-None.is c.unscaled.ensures
 
 pub returns-else-p-lt13 : goal.returns-else-p-lt13
 returns-else-p-lt13 c =
-    simp (c.in-Literal.is, le-ltb _ _ c.if-p-lt13.false) c.unscaled-in-Literal.ensures
+    simp (c.in-Some.is, le-ltb _ _ c.if-p-lt13.false) c.unscaled-in-Some.ensures

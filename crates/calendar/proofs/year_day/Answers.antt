@@ -1,7 +1,5 @@
 -- `calendar::year_day` meets its contract: the year that is estimated begins no later than the day, and the next but one behind it. Assumes nothing.
-use Prim.Native.Nat.{ℕ, ◌+◌, ◌-◌, ◌*◌, ◌/◌}
-use mathlib.Core.Path.{◌≡◌, sym, ap}
-use native.Mathlib.Omega.{arith}
+use Rattle.std.proofs.Common.{◌≡◌, ℕ, ◌+◌, ◌-◌, ◌*◌, ◌/◌, sym, ap, arith}
 use Rattle.calendar.specs.Dates.{days_of, year_length, year_day}
 use Rattle.calendar.proofs.Estimate.{not_behind, not_far, year_at}
 use Rattle.calendar.proofs.year_day.Goals as goal
@@ -16,11 +14,8 @@ returns-then-next-day c =
     year_at n (y + 1) (omega (arith, start, c.if-next-day.true)) (rw a (not_far n (omega arith))) in
     (sym (ap (λ (p : ℕ × ℕ). p.0) e), rw start (sym (ap (λ (p : ℕ × ℕ). p.1) e)))
 
-pub overflow_sub-result-2 : goal.overflow_sub-result-2
-overflow_sub-result-2 c = omega (arith, c.days_before.ensures, not_behind c.args.day (omega arith))
-
-pub returns : goal.returns
-returns c =
+pub returns-else-next-day : goal.returns-else-next-day
+returns-else-next-day c =
     let n = c.args.day in
     let y = (n - 2) * 400 / 146097 in
     let e : year_day n ≡ (y, n - days_of year_length 0 y) =

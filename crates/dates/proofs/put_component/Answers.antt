@@ -1,16 +1,10 @@
 -- `dates::put_component` meets its contract. Assumes nothing.
-use mathlib.Core.Path.{sym}
-use lib.Seq.{length-take-le}
 use native.Mathlib.Omega.{arith}
 use Rattle.numerals.specs.Integers.{int_of}
 use Rattle.fields.proofs.Cased.{length-cased}
 use Rattle.writing.proofs.Laid.{wrote_start}
 use Rattle.dates.specs.Components.{component_text}
-use borrow.Author.Rules.{rules}
 use Rattle.dates.proofs.put_component.Goals as goal
-
-pub slice_bounds-put_cased-end : goal.slice_bounds-put_cased-end
-slice_bounds-put_cased-end c = sym (length-take-le _ _ (search rules))
 
 pub returns : goal.returns
 returns c =

@@ -1,6 +1,6 @@
 -- `elements::put_element` meets its contract. Assumes nothing.
+use Rattle.std.specs.Prelude.{Some}
 use mathlib.Core.Path.{sym, ap, subst, ◌∙◌}
-use Rattle.kinds.specs.declared.Fit.TheVariants.{Fits}
 use Rattle.rows.specs.Row.{entry_at}
 use Rattle.rows.specs.Arguments.{Names}
 use Rattle.rows.proofs.Arguments.{argument-names}
@@ -10,9 +10,9 @@ use Rattle.elements.proofs.PieceTexts.{text-kind}
 use Rattle.elements.proofs.Shown.{sized_text, sized_stop}
 use Rattle.elements.proofs.put_element.Goals as goal
 
-pub returns-then-entry : goal.returns-then-entry
+pub returns-in-Integer : goal.returns-in-Integer
 unfolding element_text
-returns-then-entry c =
+returns-in-Integer c =
     let a = c.args in
     sized_text a.out.now _ _ _ _ (simp (← c.entry-entry.ensures, c.in-Integer.is, c.if-entry.true)) c.format_string.ensures
 
@@ -20,13 +20,13 @@ pub unpadded_text-text-requires : goal.unpadded_text-text-requires
 unpadded_text-text-requires c =
     let row = c.args.row.now in
     let x = entry_at row c.args.e.argument in
-    let text = text-kind c.args.e.conversion x.kind (c.requires.form ∙ ap Fits c.in-Text.is) in
+    let text = text-kind c.args.e.conversion x.kind (c.requires.form ∙ ap Some c.in-Text.is) in
     subst (Names row) (sym c.entry-entry.ensures) (argument-names row c.args.e.argument c.requires.argument text)
 
-pub returns-else-entry : goal.returns-else-entry
+pub returns-in-Integer-2 : goal.returns-in-Integer-2
 unfolding element_text
-returns-else-entry c =
-    simp (← c.entry-entry.ensures, c.in-Integer.is, c.if-entry.false) c.format_integer.ensures
+returns-in-Integer-2 c =
+    simp (← c.entry-entry.ensures, c.in-Integer-2.is, c.if-entry.false) c.format_integer.ensures
 
 pub returns-in-HexFloat : goal.returns-in-HexFloat
 unfolding element_text
@@ -56,4 +56,4 @@ pub returns-in-NotPrinted : goal.returns-in-NotPrinted
 unfolding element_text
 returns-in-NotPrinted c =
     let a = c.args in
-    sized_stop a.out.now _ 15 (simp (← c.entry-entry.ensures, c.in-NotPrinted.is))
+    sized_stop a.out.now _ _ (simp (← c.entry-entry.ensures, c.in-NotPrinted.is))

@@ -8,7 +8,3 @@ use Rattle.fields.proofs.format_string.Goals as goal
 pub put_padded-requires : goal.put_padded-requires
 put_padded-requires c =
     omega (arith, ap length c.cut.ensures, cut_shorter c.args.e.precision c.args.text.now, c.requires)
-
-pub returns : goal.returns
-returns c =
-    simp (← c.cut.ensures) c.put_padded.ensures

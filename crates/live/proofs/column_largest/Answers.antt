@@ -1,30 +1,34 @@
 -- `live::column_largest` meets its contract. Assumes nothing.
-use Rattle.std.proofs.Common.{◌≡◌, ℕ, sym, refl, ap, ◌∙◌, arith}
-use Rattle.live.proofs.Columns.{column_more, column_reaches}
+use Rattle.std.proofs.Common.{◌≡◌, ℕ, ◌+◌, ◌<◌, max, List, [], length, slice_index, get_or, drop, arith, add-one, drop-cons, ap}
+use Rattle.std.proofs.lemmas.Grind.{common_steps}
+use Rattle.std.proofs.lemmas.List.{drop_all}
 use Rattle.live.specs.Steps.{column_largest}
 use Rattle.live.proofs.column_largest.Goals as goal
 
-pub loop-i-init : goal.loop-i-init
+-- the first of those that are left
+next : (rows : List (List ℕ)) (k i : ℕ) → i < length rows
+    → column_largest (drop i rows) k ≡ max (slice_index (get_or rows i []) k) (column_largest (drop (i + 1) rows) k)
 unfolding column_largest
-loop-i-init c = (omega arith, refl, omega arith)
+next rows k i h = rw add-one (ap (λ (l : List (List ℕ)). column_largest l k) (drop-cons rows i [] h))
 
-pub returns-then-top-len : goal.returns-then-top-len
-returns-then-top-len c =
-    let l = c.loop-i in
+pub returns-then-row-k : goal.returns-then-row-k
+returns-then-row-k c =
+    let l = c.loop-row in
     let a = c.args in
-    omega (arith, column_reaches a.list.now a.k a.n l.i (omega arith), c.if-top-len.true)
+    omega (arith, next a.rows.now a.k l.row-index (omega arith))
 
-pub loop-i-preserved : goal.loop-i-preserved
-loop-i-preserved c =
-    let l = c.loop-i in
+pub loop-row-preserved : goal.loop-row-preserved
+loop-row-preserved c =
+    let l = c.loop-row in
     let a = c.args in
-    let e = c.larger-most.ensures in
-    (omega arith, e ∙ sym (column_more a.list.now a.k l.i ∙ rw (← l.invariant.1) refl), omega (arith, l.invariant, e))
+    let e = next a.rows.now a.k l.row-index (omega arith) in
+    grind (arith, common_steps, e)
 
 pub returns : goal.returns
+unfolding column_largest
 returns c =
-    let l = c.loop-i in
+    let l = c.loop-row in
     let a = c.args in
-    let e : l.i ≡ a.n = omega arith in
-    let q = l.invariant.1 ∙ ap (λ (n : ℕ). column_largest a.list.now n a.k) e in
-    omega (arith, q, l.invariant.2)
+    let e : drop l.row-index a.rows.now ≡ [] = drop_all l.row-index a.rows.now (omega arith) in
+    let z = rw e at l.invariant.all in
+    omega (arith, z)

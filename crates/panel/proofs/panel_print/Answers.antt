@@ -7,4 +7,4 @@ pub returns : goal.returns
 returns c =
     let a = c.args in
     prints a.fmt.now a.row.now a.out.now a.ends.now _ _ _ c.print_staged.ensures
-    (λ i. omega (arith, c.shared_slice_known-2-1.given i)) _ c.print_answer.ensures
+    (λ i. omega (arith, c.type_inv.row i)) _ c.print_answer.ensures

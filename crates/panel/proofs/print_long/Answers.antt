@@ -1,5 +1,5 @@
 -- `panel::print_long` meets its contract. Assumes nothing.
-use Prim.Native.Nat.{ℕ, ◌/◌, ◌≤◌}
+use Prim.Native.Nat.{ℕ}
 use mathlib.Core.Path.{◌≡◌, sym, ap, ◌∙◌}
 use mathlib.Core.List.{List}
 use lib.ListN.{length, length-take}
@@ -8,51 +8,32 @@ use native.Mathlib.Omega.{arith}
 use Rattle.writing.specs.Laid.{laid}
 use Rattle.parsing.proofs.Cover.{few}
 use Rattle.rows.specs.Row.{kinds_of}
-use Rattle.outcomes.proofs.Accepted.{Fitted, fitted}
+use Rattle.outcomes.proofs.Accepted.{fitted}
 use Rattle.words.specs.LittleEndian.{all_bytes}
 use Rattle.panel.proofs.Slots.{text_of, ends_of}
 use borrow.Author.Rules.{rules}
 use Rattle.panel.proofs.print_long.Goals as goal
 
--- what it means to be accepted
-
 pub slice_bounds-slots-end : goal.slice_bounds-slots-end
 slice_bounds-slots-end c =
-    let ok : (let a = c.args in
-    Fitted a.fmt.now a.row.now (length a.out.now) (length a.ends.now / 4) a.bytes a.pieces) =
-    let a = c.args in fitted a.fmt.now a.row.now (length a.out.now) (length a.ends.now / 4) a.bytes a.pieces c.requires in
-    let few-pieces : (c.args.pieces ≤ 512) =
-    omega (arith, ok.accepts.pieces, (few c.args.fmt.now (kinds_of c.args.row.now)).0) in
+    let k = fitted c.args.fmt.now c.args.row.now _ _ _ c.requires in
     let e : length c.stage.new.ends ≡ 512 = search rules in
-    omega (arith, e, few-pieces)
+    omega (arith, e, k.accepts.pieces, (few c.args.fmt.now (kinds_of c.args.row.now)).0)
 
 pub slice_bounds-write_fours-end : goal.slice_bounds-write_fours-end
 slice_bounds-write_fours-end c =
-    let ok : (let a = c.args in
-    Fitted a.fmt.now a.row.now (length a.out.now) (length a.ends.now / 4) a.bytes a.pieces) =
-    let a = c.args in fitted a.fmt.now a.row.now (length a.out.now) (length a.ends.now / 4) a.bytes a.pieces c.requires in
-    let few-pieces : (c.args.pieces ≤ 512) =
-    omega (arith, ok.accepts.pieces, (few c.args.fmt.now (kinds_of c.args.row.now)).0) in
+    let k = fitted c.args.fmt.now c.args.row.now _ _ _ c.requires in
     let e : length c.stage.new.ends ≡ 512 = search rules in
-    sym (length-take-le _ _ (omega (arith, e, few-pieces)))
+    sym (length-take-le _ _ (omega (arith, e, k.accepts.pieces, (few c.args.fmt.now (kinds_of c.args.row.now)).0)))
 
 pub write_fours-requires : goal.write_fours-requires
-write_fours-requires c =
-    let ok : (let a = c.args in
-    Fitted a.fmt.now a.row.now (length a.out.now) (length a.ends.now / 4) a.bytes a.pieces) =
-    let a = c.args in fitted a.fmt.now a.row.now (length a.out.now) (length a.ends.now / 4) a.bytes a.pieces c.requires in
-    simp length-take (omega (arith, ok.slots_enough))
+write_fours-requires c = simp length-take (omega (arith, (fitted c.args.fmt.now c.args.row.now _ _ _ c.requires).slots_enough))
 
 pub returns : goal.returns
 returns c =
-    let ok : (let a = c.args in
-    Fitted a.fmt.now a.row.now (length a.out.now) (length a.ends.now / 4) a.bytes a.pieces) =
-    let a = c.args in fitted a.fmt.now a.row.now (length a.out.now) (length a.ends.now / 4) a.bytes a.pieces c.requires in
-    let few-pieces : (c.args.pieces ≤ 512) =
-    omega (arith, ok.accepts.pieces, (few c.args.fmt.now (kinds_of c.args.row.now)).0) in
     let a = c.args in
-    let k = ok in
+    let k = fitted a.fmt.now a.row.now _ _ _ c.requires in
     let v = c.stage.ensures.staged in
-    let text = text_of a.fmt.now a.row.now _ _ _ _ k _ _ _ _ v k.bytes in
-    let z = ends_of a.fmt.now a.row.now _ _ _ _ k _ _ _ _ v few-pieces in
+    let text = text_of a.fmt.now a.row.now _ _ _ k _ _ _ _ v k.bytes in
+    let z = ends_of a.fmt.now a.row.now _ _ _ k _ _ _ _ v (omega (arith, k.accepts.pieces, (few a.fmt.now (kinds_of a.row.now)).0)) in
     (text, c.write_fours.ensures ∙ ap (λ (l : List ℕ). laid a.ends.now (all_bytes l)) z)

@@ -1,12 +1,11 @@
 -- `panel::print_staged` meets its contract. Assumes nothing.
+use Rattle.std.proofs.lemmas.Result.{err_from_is_err_and}
 use Prim.Native.Nat.{ℕ, ◌/◌}
 use mathlib.Core.List.{List}
-use mathlib.Core.Path.{◌≡◌, sym, ap, ◌∙◌}
+use mathlib.Core.Path.{◌≡◌, refl, sym, ap, ◌∙◌}
 use lib.ListN.{length}
-use Rattle.outcomes.specs.Printed.{texts, printed_text, ends_from, if_room, measured, printed, written}
-use Rattle.outcomes.specs.declared.Outcome.{Outcome}
+use Rattle.outcomes.specs.Printed.{Outcome, if_room, measured, printed}
 use Rattle.outcomes.proofs.Accepted.{fitted}
-use Rattle.words.specs.LittleEndian.{all_bytes}
 use Rattle.panel.proofs.Slots.{holds}
 use borrow.Author.Rules.{rules}
 use Rattle.panel.proofs.print_staged.Goals as goal
@@ -17,30 +16,26 @@ answered : (s row out ends : List ℕ) (found answer : Outcome) → found ≡ me
 unfolding printed
 answered s row out ends found answer f e = sym (e ∙ ap (if_room (length out) (length ends / 4)) f)
 
-pub returns-in_default : goal.returns-in_default
-returns-in_default c =
+pub returns-in_err-found : goal.returns-in_err-found
+returns-in_err-found c =
     let a = c.args in
-    let e = c.in_default.is in
-    let q = answered a.fmt.now a.row.now a.out.now a.ends.now _ _ c.stage-found.ensures.value c.fit-answer.ensures in
-    record {
-      answer = sym q;
-      bytes = sym (ap (λ (o : Outcome). written o a.out.now (printed_text a.fmt.now a.row.now)) e);
-      slots = sym (ap (λ (o : Outcome). written o a.ends.now (all_bytes (ends_from 0 (texts a.fmt.now a.row.now)))) e);
-    }
+    let q = answered a.fmt.now a.row.now a.out.now a.ends.now _ _ c.stage-staged.ensures.value c.fit.ensures ∙ c.in_err-found.was in
+    let p = err_from_is_err_and c.from_residual.result c.from_residual.ensures.1 in
+    rw (p.1, p.2) (record { answer = sym q; bytes = refl; slots = refl })
 
 pub print_accepted-requires : goal.print_accepted-requires
 print_accepted-requires c =
     let a = c.args in
-    let q = answered a.fmt.now a.row.now a.out.now a.ends.now _ _ c.stage-found.ensures.value c.fit-answer.ensures ∙ c.in-Accepted.is in
-    let f = fitted a.fmt.now a.row.now _ _ _ _ q in
+    let q = answered a.fmt.now a.row.now a.out.now a.ends.now _ _ c.stage-staged.ensures.value c.fit.ensures ∙ c.in_ok-found.was in
+    let f = fitted a.fmt.now a.row.now _ _ _ q in
     record {
       ends_value = q;
-      holds = holds a.fmt.now a.row.now _ _ _ _ f _ _ _ _ c.stage-found.ensures.staged (search rules) (search rules);
+      holds = holds a.fmt.now a.row.now _ _ _ f _ _ _ _ c.stage-staged.ensures.staged (search rules) (search rules);
     }
 
 pub returns : goal.returns
 returns c =
     let a = c.args in
-    let q = answered a.fmt.now a.row.now a.out.now a.ends.now _ _ c.stage-found.ensures.value c.fit-answer.ensures in
+    let q = answered a.fmt.now a.row.now a.out.now a.ends.now _ _ c.stage-staged.ensures.value c.fit.ensures ∙ c.in_ok-found.was in
     let z = c.print_accepted.ensures in
-    record { answer = sym (q ∙ c.in-Accepted.is); bytes = z.0; slots = z.1 }
+    record { answer = sym q; bytes = z.0; slots = z.1 }

@@ -18,7 +18,7 @@ use Rattle.parsing.specs.declared.Cursor.{Cursor}
 use Rattle.parsing.specs.Texts.{text_length}
 use Rattle.parsing.specs.Pieces.{passed, element_at, piece_at}
 use Rattle.parsing.specs.declared.Piece.TheVariants.{Byte}
-use Rattle.parsing.specs.declared.Step.TheVariants.{Found}
+use Rattle.std.specs.Prelude.{Ok}
 use Rattle.parsing.proofs.Progress.{text_in}
 use Rattle.parsing.proofs.next_piece.Goals as goal
 
@@ -34,18 +34,14 @@ returns-then-fmt-at c =
 
 pub overflow_add-at : goal.overflow_add-at
 overflow_add-at c =
-    let measured : (let a = c.args in c.text_len-n.result ≡ text_length (drop a.c.at a.fmt.now)) =
-    let a = c.args in
-    c.text_len-n.ensures ∙ ap text_length (part_to_end a.fmt.now a.c.at) in
+    let measured = c.text_len-len.ensures ∙ ap text_length (part_to_end c.args.fmt.now c.args.c.at) in
     let a = c.args in
     omega (arith, measured, text_in (drop a.c.at a.fmt.now), length-drop a.c.at a.fmt.now)
 
 pub returns-then-fmt-at-ne37 : goal.returns-then-fmt-at-ne37
 unfolding piece_at
 returns-then-fmt-at-ne37 c =
-    let measured : (let a = c.args in c.text_len-n.result ≡ text_length (drop a.c.at a.fmt.now)) =
-    let a = c.args in
-    c.text_len-n.ensures ∙ ap text_length (part_to_end a.fmt.now a.c.at) in
+    let measured = c.text_len-len.ensures ∙ ap text_length (part_to_end c.args.fmt.now c.args.c.at) in
     let a = c.args in
     simp (begins_at a.fmt.now a.c.at (code "%") (omega arith), ne_eqb _ _ c.if-fmt-at-ne37.true, c.passed_by-then-fmt-at-ne37.ensures, measured)
 
@@ -65,7 +61,7 @@ returns-then-is_byte c =
 by_second : (s ks : List ℕ) (k : Cursor) → k.at < length s → eqb (get_or s k.at 0) (code "%") ≡ true
     → begins_with (code "%") (drop (k.at + 1) s) ≡ false
     → piece_at s ks k
-    ≡ choose (begins_with (code "n") (drop (k.at + 1) s)) (λ _. Found (Byte 10) (passed k (k.at + 2))) (λ _. element_at s ks k)
+    ≡ choose (begins_with (code "n") (drop (k.at + 1) s)) (λ _. Ok (Byte 10, passed k (k.at + 2))) (λ _. element_at s ks k)
 unfolding piece_at
 by_second s ks k h e f = simp (begins_at s k.at (code "%") h, e, f)
 

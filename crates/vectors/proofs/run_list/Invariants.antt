@@ -4,8 +4,8 @@ use Rattle.records.proofs.Counting.{Counting}
 use Rattle.vectors.specs.Right.{is_right}
 use Rattle.vectors.proofs.run_list.Given as goal
 
-abbrev pub invariant-loop-t : goal.invariant-loop-t
-invariant-loop-t l = Counting (is_right l.list) l.list l.t
+abbrev pub invariant-loop-rec : goal.invariant-loop-rec
+invariant-loop-rec l = Counting (is_right l.list) l.list l.t
 
-abbrev pub decreases-loop-t : goal.decreases-loop-t
-decreases-loop-t l = length l.list - l.t.at
+abbrev pub decreases-loop-rec : goal.decreases-loop-rec
+decreases-loop-rec l = length l.list - l.t.at

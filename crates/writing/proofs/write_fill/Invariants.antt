@@ -1,12 +1,7 @@
--- `writing::write_fill` meets its contract. The loop's invariant: the first i bytes are written, and the rest is as it was. Assumes nothing.
-use Prim.Native.Nat.{◌≤◌, ◌-◌}
+-- `writing::write_fill` meets its contract. The loop's invariant: the places so far hold b. Assumes nothing.
 use mathlib.Core.Path.{◌≡◌}
-use lib.ListN.{length, replicate}
-use Rattle.writing.specs.Laid.{laid}
+use lib.ListN.{take, replicate}
 use Rattle.writing.proofs.write_fill.Given as goal
 
-abbrev pub invariant-loop-i : goal.invariant-loop-i
-invariant-loop-i l = (l.i ≤ l.n) × (length l.out ≡ length l.initial.out) × (l.out ≡ laid l.initial.out (replicate l.i l.b))
-
-abbrev pub decreases-loop-i : goal.decreases-loop-i
-decreases-loop-i l = l.n - l.i
+abbrev pub invariant-loop-x : goal.invariant-loop-x
+invariant-loop-x l = take l.x-index l.x-items ≡ replicate l.x-index l.b

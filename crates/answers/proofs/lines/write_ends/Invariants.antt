@@ -1,14 +1,8 @@
--- `answers::lines::write_ends` meets its contract. Assumes nothing.
-use Prim.Native.Nat.{◌-◌, ◌*◌, ◌≤◌}
-use mathlib.Core.Path.{◌≡◌}
-use lib.ListN.{length, take}
+-- What was written are the lines of the ends so far.
+use Rattle.std.proofs.Common.{◌*◌, ◌≤◌, take}
 use Rattle.writing.specs.Writers.{Wrote}
 use Rattle.answers.specs.Lines.{end_lines}
 use Rattle.answers.proofs.lines.write_ends.Given as goal
 
-abbrev pub invariant-loop-k : goal.invariant-loop-k
-invariant-loop-k l =
-    (Wrote l.initial.out (end_lines (take l.k l.ends)) l.at l.out) × (l.k ≤ length l.ends) × (l.at ≤ 11 * l.k) × (length l.out ≡ length l.initial.out)
-
-abbrev pub decreases-loop-k : goal.decreases-loop-k
-decreases-loop-k l = l.k-end - l.k
+abbrev pub invariant-loop-end : goal.invariant-loop-end
+invariant-loop-end l = (Wrote l.initial.out (end_lines (take l.end-index l.ends)) l.at l.out) × (l.at ≤ 11 * l.end-index)

@@ -1,35 +1,30 @@
 -- `frames::layout::write_short` meets its contract. Assumes nothing.
-use Prim.Native.Nat.{ℕ}
-use mathlib.Core.Path.{◌≡◌, refl, sym}
+use Prim.Native.Nat.{ℕ, ◌≤◌, ◌<◌}
+use mathlib.Core.Path.{refl, sym}
 use mathlib.Core.List.{List, [], ◌∷◌}
 use native.Mathlib.Omega.{arith}
-use lib.ListN.{take, length-set}
-use Rattle.writing.proofs.Laid.{laid_none, laid-first, laid_stores}
-use Rattle.frames.specs.Short.{StandsFor}
-use Rattle.frames.specs.declared.Short.{Short}
-use borrow.Author.Rules.{rules}
+use lib.ListN.{length, get_or, set}
+use Rattle.writing.specs.Writers.{Wrote}
+use Rattle.writing.proofs.Laid.{laid_none, laid_stores}
 use Rattle.frames.proofs.layout.write_short.Goals as goal
 
--- the text that a short text stands for, by its bytes
-text_is : (s : Short) (t : List ℕ) → StandsFor s t → t ≡ take s.0 (s.1 ∷ s.2 ∷ [])
-text_is s [] h = simp h.size
-text_is s (x ∷ []) h = simp (h.size, h.first)
-text_is s (x ∷ y ∷ []) h = simp (h.size, h.first, h.second)
-text_is s (x ∷ y ∷ z ∷ t) h = absurd (omega (arith, h.size, h.few))
+none : (d t : List ℕ) → length t < 1 → Wrote d t 0 d
+none d [] h = (refl, sym (laid_none d))
+none d (x ∷ t) h = absurd (omega arith)
 
-pub returns-then-s-eq0 : goal.returns-then-s-eq0
-returns-then-s-eq0 c = (search rules, λ t h. simp (text_is _ t h, c.if-s-eq0.true) (refl, sym (laid_none _)))
+one : (d t : List ℕ) → 1 ≤ length t → length t < 2 → 1 ≤ length d → Wrote d t 1 (set d 0 (get_or t 0 0))
+one d (x ∷ []) h k r = (refl, laid_stores d (x ∷ []) r)
+one d _ h k r = absurd (omega arith)
 
-pub returns-then-s-eq1 : goal.returns-then-s-eq1
-returns-then-s-eq1 c = (search rules, λ t h. simp (text_is _ t h, c.if-s-eq1.true) (refl, laid-first _ _ (omega arith)))
+two : (d t : List ℕ) → 2 ≤ length t → length t ≤ 2 → 2 ≤ length d → Wrote d t 2 (set (set d 0 (get_or t 0 0)) 1 (get_or t 1 0))
+two d (x ∷ y ∷ []) h k r = (refl, laid_stores d (x ∷ y ∷ []) r)
+two d _ h k r = absurd (omega arith)
 
-pub returns : goal.returns
-returns c = (
-  search rules,
-  λ t h.
-      let two : c.args.s.0 ≡ 2 = omega (arith, h.few) in
-      simp (text_is _ t h, two) (refl, laid_stores _ _ (omega arith)),
-)
+pub returns-in-empty : goal.returns-in-empty
+returns-in-empty c = none _ _ (omega arith)
 
-pub bounds-out-1 : goal.bounds-out-1
-bounds-out-1 c = simp length-set (omega arith)
+pub returns-in-len1 : goal.returns-in-len1
+returns-in-len1 c = one _ _ (omega arith) (omega arith) (omega arith)
+
+pub returns-in-len2-up : goal.returns-in-len2-up
+returns-in-len2-up c = two _ _ (omega arith) (omega arith) (omega arith)

@@ -13,7 +13,6 @@ pub loop-i-init : goal.loop-i-init
 loop-i-init c =
     let a = c.args in (
       omega arith,
-      omega arith,
       written_none group_byte group_next a.out.now (grouped (decimal a.x)) a.n (a.x, 0)
           (grouped_right a.x ∙ ap (λ (k : ℕ). from_right group_byte group_next k (a.x, 0)) (sym c.requires.0)),
     )
@@ -24,9 +23,8 @@ loop-i-preserved-then-run-eq3 c =
     let a = c.args in
     let e = eq-eqb l.run 3 c.if-run-eq3.true in (
       omega arith,
-      omega arith,
       written_turn group_byte group_next a.out.now (grouped (decimal a.x)) l.out l.i (l.v, l.run) (l.v, 0) (code ",")
-          (omega arith) (omega arith) (simp e) (simp e) l.invariant.2,
+          (omega arith) (omega arith) (simp e) (simp e) l.invariant.1,
     )
 
 pub loop-i-preserved : goal.loop-i-preserved
@@ -35,10 +33,9 @@ loop-i-preserved c =
     let a = c.args in
     let e = ne_eqb l.run 3 c.if-run-eq3.false in (
       omega arith,
-      omega arith,
       written_turn group_byte group_next a.out.now (grouped (decimal a.x)) l.out l.i (l.v, l.run) (l.v / 10, l.run + 1)
           c.digit_letter.result
-          (omega arith) (omega arith) (simp e (sym c.digit_letter.ensures)) (simp e) l.invariant.2,
+          (omega arith) (omega arith) (simp e (sym c.digit_letter.ensures)) (simp e) l.invariant.1,
     )
 
 pub returns : goal.returns
@@ -46,5 +43,5 @@ returns c =
     let l = c.loop-i in
     let a = c.args in (
       c.requires.0,
-      written_all group_byte group_next a.out.now (grouped (decimal a.x)) l.out l.i (l.v, l.run) (omega arith) l.invariant.2,
+      written_all group_byte group_next a.out.now (grouped (decimal a.x)) l.out l.i (l.v, l.run) (omega arith) l.invariant.1,
     )

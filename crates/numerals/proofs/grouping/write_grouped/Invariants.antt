@@ -9,7 +9,4 @@ use Rattle.numerals.proofs.grouping.write_grouped.Given as goal
 
 abbrev pub invariant-loop-i : goal.invariant-loop-i
 invariant-loop-i l =
-    (l.i ≤ l.n) × (l.run ≤ 3) × Written group_byte group_next l.initial.out (grouped (decimal l.x)) l.out l.i (l.v, l.run)
-
-abbrev pub decreases-loop-i : goal.decreases-loop-i
-decreases-loop-i l = l.i
+    (l.run ≤ 3) × Written group_byte group_next l.initial.out (grouped (decimal l.x)) l.out l.i (l.v, l.run)

@@ -6,5 +6,5 @@ use Rattle.numerals.proofs.integers.magnitude.Goals as goal
 pub returns-then-x-lt9223372036854775808 : goal.returns-then-x-lt9223372036854775808
 returns-then-x-lt9223372036854775808 c = sym (magnitude_low 64 c.args.x c.if-x-lt9223372036854775808.true)
 
-pub returns : goal.returns
-returns c = omega (arith, c.wrapping_sub_u64.ensures, magnitude_high 64 c.args.x (omega arith) (omega arith))
+pub returns-else-x-lt9223372036854775808 : goal.returns-else-x-lt9223372036854775808
+returns-else-x-lt9223372036854775808 c = omega (arith, magnitude_high 64 c.args.x (omega arith) (omega arith))

@@ -6,7 +6,7 @@ use Rattle.printing.proofs.passes.walk.Given as goal
 
 abbrev pub invariant-loop-c : goal.invariant-loop-c
 invariant-loop-c l =
-    Laying l.fmt l.row l.kinds l.prints l.initial.out l.initial.ends l.k l.c l.tally l.largest l.out l.ends
+    Laying l.fmt l.row l.kinds l.prints l.initial.out l.initial.ends l.pieces l.c l.tally l.largest l.out l.ends
 
 abbrev pub decreases-loop-c : goal.decreases-loop-c
 decreases-loop-c l = length l.fmt - l.c.at

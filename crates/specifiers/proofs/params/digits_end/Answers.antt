@@ -1,33 +1,17 @@
 -- `specifiers::params::digits_end` meets its contract. The loop's invariant: the digits from `end` on end where those from the start do. Assumes nothing.
-use mathlib.Core.Path.{refl, ap}
-use lib.ListN.{length}
-use native.Mathlib.Omega.{arith}
-use Rattle.specifiers.proofs.Numbers.{end_of_text, below_digit, above_digit, digit_at}
+use Rattle.std.proofs.Common.{ap, length, arith}
+use Rattle.specifiers.proofs.Numbers.{end_of_text, no_digit, digit_at}
 use Rattle.specifiers.proofs.params.digits_end.Goals as goal
-
-pub loop-end-init : goal.loop-end-init
-loop-end-init c = refl
-
-pub returns-then-byte-lt48 : goal.returns-then-byte-lt48
-returns-then-byte-lt48 c =
-    let l = c.loop-end in
-    let s = c.args.s.now in
-    omega (arith, l.invariant, ap length (below_digit s l.end (omega arith) (omega arith)))
-
-pub returns-then-byte-gt57 : goal.returns-then-byte-gt57
-returns-then-byte-gt57 c =
-    let l = c.loop-end in
-    let s = c.args.s.now in
-    omega (arith, l.invariant, ap length (above_digit s l.end (omega arith) (omega arith)))
 
 pub loop-end-preserved : goal.loop-end-preserved
 loop-end-preserved c =
-    let l = c.loop-end in
-    let s = c.args.s.now in
-    omega (arith, l.invariant, ap length (digit_at s l.end (omega arith) (omega arith) (omega arith)))
+    let digit = rw c.if-is_ascii_digit.true at c.is_ascii_digit.ensures.cases in
+    omega (arith, c.loop-end.invariant, ap length (digit_at c.args.s.now c.loop-end.end (omega arith) digit.0 digit.1))
 
-pub returns : goal.returns
-returns c =
-    let l = c.loop-end in
-    let s = c.args.s.now in
-    omega (arith, l.invariant, ap length (end_of_text s l.end (omega arith)))
+pub returns-else-is_ascii_digit : goal.returns-else-is_ascii_digit
+returns-else-is_ascii_digit c =
+    let other = rw c.if-is_ascii_digit.false at c.is_ascii_digit.ensures.cases in
+    omega (arith, c.loop-end.invariant, ap length (no_digit c.args.s.now c.loop-end.end (omega arith) other))
+
+pub returns-after-loop-end : goal.returns-after-loop-end
+returns-after-loop-end c = omega (arith, c.loop-end.invariant, ap length (end_of_text c.args.s.now c.loop-end.end (omega arith)))
