@@ -9,12 +9,10 @@ use native.Mathlib.Omega.{arith}
 use lib.Dec.{lit≤}
 use lib.ListN.{length, get_or, take, length-append}
 use lib.Seq.{take-suc}
+use Rattle.writing.proofs.Laid.{laid_more}
 use Rattle.numerals.specs.Digits.{decimal}
-use Rattle.numerals.proofs.Digits.{places_le, twenty_places, length-numeral}
+use Rattle.numerals.proofs.Digits.{places_le, length-numeral}
 use Rattle.answers.specs.Lines.{line, numbers_line, end_lines}
-
-pub at_most_twenty : (n : ℕ) → n < 2 ^ 64 → length (decimal n) ≤ 20
-at_most_twenty n h = omega (arith, length-numeral false 10 n, twenty_places n h)
 
 pub at_most_ten : (n : ℕ) → n < 2 ^ 32 → length (decimal n) ≤ 10
 at_most_ten n h = omega (arith, length-numeral false 10 n, places_le 10 9 n (lit≤ tt) (omega arith))
@@ -42,3 +40,6 @@ lines_next es k h =
     ∙ ap end_lines (take-suc es k 0 h)
     ∙ lines_append (take k es) (e ∷ [])
     ∙ ap (λ (l : List ℕ). end_lines (take k es) ++ l) (append-nil (line (decimal e))))
+
+-- what the writers of a line's end need
+pub ruleset ended = (line_length, laid_more)

@@ -3,8 +3,8 @@ use Rattle.std.specs.Prelude.{Ok}
 use mathlib.Core.Path.{◌≡◌, sym, ap, ◌∙◌}
 use mathlib.Core.List.{List}
 use Prim.Native.Nat.{ℕ}
-use lib.ListN.{length, take, drop}
-use lib.Seq.{take_at}
+use lib.ListN.{length, take, drop, length-take}
+use lib.Seq.{take_at, length-take-le}
 use Rattle.writing.specs.Laid.{laid}
 use Rattle.parsing.specs.Listed.{placed}
 use Rattle.rows.specs.Row.{kinds_of}
@@ -48,3 +48,5 @@ module _ (s row : List ℕ) (m : Measured) (q : printed s row room slots ≡ Ok 
       ap (λ (x : List ℕ). outcome_text (told x (take m.pieces ends)) x (take m.pieces ends)) (text_left c out e)
       ∙ ap (λ (x : List ℕ). outcome_text (told t x) t x) (ends_left d ends f)
       ∙ ap (λ (x : Outcome). outcome_text x t u) (ap Ok lengths ∙ sym q)
+
+pub ruleset printing = (fits, length-take, length-take-le)

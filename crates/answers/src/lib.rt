@@ -8,7 +8,8 @@ ghost use Rattle.writing.specs.Writers.{Wrote};
 ghost use Rattle.answers.specs.Answers.{room, slots, printed_answer, answer_text, sheet_text, most_answer};
 ghost use Rattle.answers.specs.Writers.{WroteAccepted};
 
-// Writes the answer of an accepted call. Answers its length.
+// Writes the answer of an accepted call. Answers its length. That the longest answer has room stands in each contract here, and not in a type of so many
+// bytes: any slice with room will do.
 #[tactic(auto, using(crate::proofs::LineTexts::line_length))]
 fn write_accepted(out: &mut [u8], text: &[u8], ends: &[u32]) -> usize
     requires { (most_answer ≤ length out.old) × (length text.now ≤ room) × (length ends.now ≤ slots) }
@@ -20,6 +21,7 @@ fn write_accepted(out: &mut [u8], text: &[u8], ends: &[u32]) -> usize
 }
 
 // Prints a row under a format and writes the answer. Answers its length.
+#[tactic(auto, using(crate::proofs::Printed::printing))]
 fn write_printed(out: &mut [u8], fmt: &[u8], row: &[u8]) -> usize
     requires { most_answer ≤ length out.old }
     ensures { Wrote out.old (printed_answer fmt.now row.now) result out.new }

@@ -1,31 +1,23 @@
-// Lines of text and of numbers, written in a lent slice. Knows nothing of formats, rows or printing.
+// Lines of text and of numbers, written in a lent slice, and not by a format macro, whose contract does not say which bytes it writes. Knows nothing of
+// formats, rows or printing.
 ghost use Rattle.std.specs.Prelude.{◌+◌, ◌*◌, ◌≤◌, length};
 ghost use Rattle.writing.specs.Writers.{Wrote};
 ghost use Rattle.numerals.specs.Digits.{decimal};
 ghost use Rattle.answers.specs.Lines.{line, numbers_line, end_lines};
 
-use numerals::Radix;
-
-// Writes a number in decimal. Answers its length.
-fn write_number(out: &mut [u8], x: u64) -> usize
-    requires { length (decimal x) ≤ length out.old }
-    ensures { Wrote out.old (decimal x) result out.new }
-{
-    let n = numerals::decimal_len(x);
-    numerals::write_digits(out, x, Radix::Decimal, n, false)
-}
-
 // Writes a number on a line. Answers the line's length.
+#[tactic(auto, using(crate::proofs::LineTexts::ended))]
 fn write_number_line(out: &mut [u8], x: u64) -> usize
     requires { length (decimal x) + 1 ≤ length out.old }
     ensures { Wrote out.old (line (decimal x)) result out.new }
 {
-    let n = write_number(out, x);
+    let n = numerals::write_decimal(out, x);
     out[n] = b'\n';
     n + 1
 }
 
 // Writes a text and a line end. Answers the line's length.
+#[tactic(auto, using(crate::proofs::LineTexts::ended))]
 pub(crate) fn write_line(out: &mut [u8], text: &[u8]) -> usize
     requires { length text.now + 1 ≤ length out.old }
     ensures { Wrote out.old (line text.now) result out.new }
@@ -36,13 +28,13 @@ pub(crate) fn write_line(out: &mut [u8], text: &[u8]) -> usize
 }
 
 // Writes a word and two numbers on a line. Answers the line's length. A number has at most 20 digits.
-#[tactic(auto, using(crate::proofs::LineTexts::at_most_twenty, crate::proofs::LineTexts::line_length, std::proofs::lemmas::Grind::common_steps))]
+#[tactic(auto, using(numerals::proofs::Digits::at_most_twenty, crate::proofs::LineTexts::line_length, std::proofs::lemmas::Grind::common_steps))]
 pub(crate) fn write_numbers(out: &mut [u8], word: &[u8], a: u64, b: u64) -> usize
     requires { length word.now + 42 ≤ length out.old }
     ensures { (Wrote out.old (numbers_line word.now a b) result out.new) × (result ≤ length word.now + 42) }
 {
     let i = writing::write_text(out, word);
-    let j = i + write_number(&mut out[i..], a);
+    let j = i + numerals::write_decimal(&mut out[i..], a);
     out[j] = b' ';
     let k = j + 1;
     k + write_number_line(&mut out[k..], b)

@@ -3,7 +3,7 @@ use mathlib.Core.Path.{◌≡◌, refl, sym, ap, ◌∙◌}
 use Prim.Native.Nat.{ℕ, zero, suc, ◌-◌, ◌*◌, ◌%◌, ◌^◌, ◌≤◌, ◌<◌}
 use native.Mathlib.Nat.{pow-suc, one-mul, mod-eq_of_lt}
 use native.Mathlib.Omega.{arith}
-use lib.Pow.{pow-add, pow_pos, pow-lt}
+use lib.Pow.{pow-add, pow-lt}
 
 pub sixteens : (p : ℕ) → 2 ^ (4 * p) ≡ 16 ^ p
 sixteens zero = refl
@@ -16,9 +16,6 @@ sixteens_left p h = ap (λ (z : ℕ). 2 ^ z) (omega arith) ∙ sixteens (13 - p)
 
 one_shifted : (k : ℕ) → k < 64 → 1 * 2 ^ k % 2 ^ 64 ≡ 2 ^ k
 one_shifted k h = simp one-mul (mod-eq_of_lt (pow-lt h))
-
-pub shifted_pos : (k : ℕ) → k < 64 → 0 < 1 * 2 ^ k % 2 ^ 64
-shifted_pos k h = rw (one_shifted k h) (pow_pos k)
 
 pub shifted : (p : ℕ) → p < 16 → 1 * 2 ^ (4 * p) % 2 ^ 64 ≡ 16 ^ p
 shifted p h = one_shifted (4 * p) (omega arith) ∙ sixteens p

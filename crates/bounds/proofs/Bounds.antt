@@ -14,7 +14,7 @@ use Rattle.kinds.specs.Kinds.{kind_in}
 use Rattle.specifiers.specs.Specifier.{begins_with, specifier_at}
 use Rattle.parsing.specs.declared.arguments.Index.{Index}
 use Rattle.parsing.specs.Texts.{text_length}
-use Rattle.parsing.specs.Pieces.{start, argument_at, after_specifier, after_index, element_at, piece_at}
+use Rattle.parsing.specs.Pieces.{start, argument_at, after_specifier, after_index, element_at, piece_at, Step}
 use Rattle.parsing.specs.Listed.{Placed, and_rest, placed_from, placed}
 use Rattle.parsing.specs.declared.Cursor.{Cursor}
 use Rattle.rows.specs.Row.{count_of, kinds_of, text_area, entry_at, named_text, is_row}
@@ -26,7 +26,6 @@ use Rattle.bounds.proofs.Elements.{SpecifierLimited, specifier_limited}
 use Rattle.bounds.proofs.Frames.{Short, Body}
 use Rattle.bounds.proofs.Texts.{element-short}
 use Rattle.refusals.specs.Numbers.{Parsed}
-use Rattle.parsing.specs.Pieces.{Step}
 use Rattle.refusals.specs.declared.Refusal.{Refusal}
 use Rattle.specifiers.specs.declared.Element.{Element}
 

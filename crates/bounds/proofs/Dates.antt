@@ -20,7 +20,8 @@ use Rattle.calendar.specs.declared.Moment.{Moment}
 use Rattle.calendar.proofs.Only.{year-long, the_only_date}
 use Rattle.calendar.proofs.Epoch.{magnitude_within, seconds_range}
 use Rattle.dates.specs.Names.{month_names, weekday_names, name_of}
-use Rattle.dates.specs.Components.{at_least, number_text, clock12, half, sign_text, numbers, names, name_text, symbol_text, pattern_of, symbols_text, component_text}
+use Rattle.dates.specs.Components.{at_least, number_text, clock12, half, sign_text, numbers, names, name_text, symbol_text, pattern_of, symbols_text}
+use Rattle.dates.specs.Components.{component_text}
 use Rattle.dates.specs.Steps.{room, room_for}
 use Rattle.dates.proofs.Symbols.{room_of_pattern}
 

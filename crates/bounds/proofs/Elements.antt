@@ -14,7 +14,8 @@ use Rattle.kinds.specs.Kinds.{fit_in}
 use Rattle.kinds.specs.declared.Kind.{Kind}
 use Rattle.specifiers.specs.Flags.{flags_at}
 use Rattle.specifiers.specs.declared.flags.Flags.{Flags}
-use Rattle.specifiers.specs.Specifier.{begins_with, precision_at, letter_at, after_precision, after_width, after_flags, parts_at, fitted, after_letter, after_parts, specifier_at}
+use Rattle.specifiers.specs.Specifier.{begins_with, precision_at, letter_at, after_precision, after_width, after_flags, parts_at, fitted, after_letter}
+use Rattle.specifiers.specs.Specifier.{after_parts, specifier_at}
 use Rattle.specifiers.specs.declared.Element.{Element}
 use Rattle.specifiers.specs.declared.Parts.{Parts}
 use Rattle.refusals.specs.Numbers.{Parsed}

@@ -9,7 +9,9 @@ use Rattle.numerals.specs.Integers.{int_of, is_negative}
 use Rattle.numerals.proofs.TwosComplement.{magnitude_low, magnitude_high}
 use Rattle.calendar.specs.Dates.{is_leap, days_of, year_length, day_number, year_day, month_day, date_of}
 use Rattle.calendar.specs.Moments.{epoch_day, since_year0, weekday_of, ordinal_of, moment_of}
+use Rattle.calendar.proofs.Finite.{longest}
 use Rattle.calendar.proofs.Only.{year_and_day}
+use Rattle.calendar.proofs.Estimate.{in_found_year, in_month}
 
 pub epoch : epoch_day ≡ 719528
 unfolding epoch_day day_number days_of year_length is_leap
@@ -72,3 +74,6 @@ pub the_moment : (z : ℤ) (t nanos y k m d : ℕ) (leap : Bool) → t ≡ since
     ≡ moment_of z
 unfolding moment_of date_of
 the_moment z t nanos y k m d leap a b e f l g h = rw (weekday (t / 86400), h, g, l, e, f, ordinal (t / 86400), a, b) refl
+
+-- how far each number of a moment goes
+pub ruleset ranges = (in_found_year, in_month, longest, seconds_range)

@@ -24,13 +24,6 @@ pub struct Moment {
     pub nanos: u64,
 }
 
-// Whole years or months counted off from days, and the days that are left.
-#[derive(Clone, Copy)]
-struct Counted {
-    whole: u64,
-    left: u64,
-}
-
 #[tactic(auto, unfolding(crate::specs::Dates::is_leap))]
 fn is_leap(year: u64) -> bool
     ensures { result ≡ is_leap year }
@@ -49,22 +42,16 @@ fn days_before(year: u64) -> u64
 
 // The year of a day, and the days of the year before it. 400 years have 146,097 days, so that the year is at most one too small.
 #[tactic(auto, using(crate::proofs::Estimate::not_behind))]
-fn year_day(day: u64) -> Counted
+fn year_day(day: u64) -> (u64, u64)
     requires { (2 ≤ day) × (day < 10000000) }
-    ensures { (result.whole ≡ (year_day day).0) × (result.left ≡ (year_day day).1) }
+    ensures { (result.0 ≡ (year_day day).0) × (result.1 ≡ (year_day day).1) }
 {
     let year = (day - 2) * 400 / 146097;
     let next = days_before(year + 1);
     if next <= day {
-        Counted {
-            whole: year + 1,
-            left: day - next,
-        }
+        (year + 1, day - next)
     } else {
-        Counted {
-            whole: year,
-            left: day - days_before(year),
-        }
+        (year, day - days_before(year))
     }
 }
 
@@ -82,63 +69,51 @@ fn evened(leap: bool, day: u64) -> u64
 
 // The month of a day of a year, and the days of the month before it. Where February has 30 days, a line over the months gives where they begin.
 #[tactic(auto, using(crate::proofs::Finite::longest, crate::proofs::Finite::on_the_line))]
-fn month_day(leap: bool, day: u64) -> Counted
+fn month_day(leap: bool, day: u64) -> (u64, u64)
     requires { day < days_of (month_length leap) 0 12 }
-    ensures { (result.whole ≡ (month_day leap day).0) × (result.left ≡ (month_day leap day).1) }
+    ensures { (result.0 ≡ (month_day leap day).0) × (result.1 ≡ (month_day leap day).1) }
 {
     let even = evened(leap, day);
     let month = (even * 12 + 6) / 367;
-    Counted {
-        whole: month,
-        left: even - (month * 367 + 5) / 12,
-    }
+    (month, even - (month * 367 + 5) / 12)
 }
 
 // The seconds from the beginning of the year 0, and the nanoseconds behind the last of them.
-#[derive(Clone, Copy)]
-struct Seconds {
-    seconds: u64,
-    nanos: u64,
-}
-
 #[tactic(auto, using(crate::proofs::Epoch::magnitude_within, crate::proofs::Epoch::forward, crate::proofs::Epoch::back))]
-fn seconds_of(timestamp: u64) -> Seconds
-    ensures { (result.seconds ≡ since_year0 (int_of 64 timestamp) / 1000000000) × (result.nanos ≡ since_year0 (int_of 64 timestamp) % 1000000000) }
+fn seconds_of(timestamp: u64) -> (u64, u64)
+    ensures { (result.0 ≡ since_year0 (int_of 64 timestamp) / 1000000000) × (result.1 ≡ since_year0 (int_of 64 timestamp) % 1000000000) }
 {
     let magnitude = numerals::integers::magnitude(timestamp);
     if numerals::integers::is_negative(timestamp) {
         let back = (magnitude + 999999999) / 1000000000;
-        Seconds {
-            seconds: EPOCH_SECONDS - back,
-            nanos: back * 1000000000 - magnitude,
-        }
+        (EPOCH_SECONDS - back, back * 1000000000 - magnitude)
     } else {
-        Seconds {
-            seconds: EPOCH_SECONDS + magnitude / 1000000000,
-            nanos: magnitude % 1000000000,
-        }
+        (
+            EPOCH_SECONDS + magnitude / 1000000000,
+            magnitude % 1000000000,
+        )
     }
 }
 
 // The moment of a timestamp, nanoseconds since 1970-01-01 in 64 bits of two's complement.
-#[tactic(auto, using(crate::proofs::Estimate::in_found_year, crate::proofs::Estimate::in_month, crate::proofs::Finite::longest))]
+#[tactic(auto, using(crate::proofs::Epoch::ranges))]
 pub fn moment_of(timestamp: u64) -> Moment
     ensures { result ≡ moment_of (int_of 64 timestamp) }
 {
-    let at = seconds_of(timestamp);
-    let day = at.seconds / 86400;
-    let time = at.seconds % 86400;
-    let in_year = year_day(day);
-    let in_month = month_day(is_leap(in_year.whole), in_year.left);
+    let (seconds, nanos) = seconds_of(timestamp);
+    let day = seconds / 86400;
+    let time = seconds % 86400;
+    let (year, in_year) = year_day(day);
+    let (month, in_month) = month_day(is_leap(year), in_year);
     Moment {
-        year: in_year.whole,
-        month: in_month.whole + 1,
-        day: in_month.left + 1,
-        ordinal: in_year.left + 1,
+        year,
+        month: month + 1,
+        day: in_month + 1,
+        ordinal: in_year + 1,
         weekday: (day + 5) % 7,
         hour: time / 3600,
         minute: time / 60 % 60,
         second: time % 60,
-        nanos: at.nanos,
+        nanos,
     }
 }

@@ -14,7 +14,7 @@ use Rattle.writing.proofs.Choose.{both}
 use Rattle.utf8.specs.Utf8.{well_formed}
 use Rattle.kinds.specs.Kinds.{all_known}
 use Rattle.parsing.specs.Check.{largest_of, checked_end, checked}
-use Rattle.parsing.specs.Listed.{placed}
+use Rattle.parsing.specs.Listed.{placed, Ended}
 use Rattle.grammar.specs.Parts.{Part, largest_in}
 use Rattle.grammar.specs.Elements.{Clash}
 use Rattle.grammar.specs.Elements as E
@@ -25,18 +25,15 @@ use Rattle.grammar.proofs.Listed.{lists_length, lists_largest}
 use Rattle.grammar.proofs.Letters.{never}
 use Rattle.grammar.proofs.Readings.{Ends, made, stops, ends, read_whole}
 use Rattle.rows.specs.Row.{kinds_of, is_row}
-use Rattle.outcomes.specs.Printed.{printed_text, measured, if_room, printed, joined}
+use Rattle.outcomes.specs.Printed.{printed_text, measured, if_room, printed, joined, Outcome}
 use Rattle.outcomes.specs.PartTexts.{PartTexts}
 use Rattle.outcomes.proofs.PartTexts.{part_texts}
-use Rattle.causes.specs.Calls.{Call, checking, measuring, printing, format_in, kinds_in, OfRow, measured_row, printed_row}
-use Rattle.causes.specs.Calls.{of_checked, of_outcome, refusal}
+use Rattle.causes.specs.Calls.{Call, checking, measuring, printing, format_in, kinds_in, OfRow, measured_row, printed_row, of_checked, of_outcome, refusal}
 use Rattle.causes.specs.Causes.{BadInput, Begins, AllPrinted, FirstUnprinted, here, earlier, NoRoom, Cause}
 use Rattle.causes.specs.Causes as K
 use Rattle.causes.proofs.Inputs.{kinds_good, bad_kinds, kinds_bad, checked-kinds, row_good, measured_bad, printed_bad}
 use Rattle.causes.proofs.Refused.{read-checked, accepted_measured, refuses, text_is}
 use Rattle.causes.proofs.Stops.{Told, fine, found, told}
-use Rattle.parsing.specs.Listed.{Ended}
-use Rattle.outcomes.specs.Printed.{Outcome}
 use Rattle.refusals.specs.declared.Refusal.{Refusal}
 use Rattle.refusals.specs.declared.Stop.{Stop}
 use Rattle.refusals.specs.Numbers.{refusal_number, stop}
@@ -178,7 +175,8 @@ accepted_exactly call = (without, only)
         go (caused {n = n} {p = p} x) = absurd (h n p x)
 
 -- What an accepted call answers. A format is checked with as many pieces as it has parts, and their largest argument;
-pub checked_parts : {s ks : List ℕ} {parts : List Part} → Begins (checking s ks) → Whole s ks parts → checked s ks ≡ Ok (record { pieces = length parts; largest = largest_in parts })
+pub checked_parts : {s ks : List ℕ} {parts : List Part} → Begins (checking s ks) → Whole s ks parts
+    → checked s ks ≡ Ok (record { pieces = length parts; largest = largest_in parts })
 checked_parts {s} {ks} b w = checked-whole b.short b.formed (kinds_good s ks b.input) w
 
 -- a row is measured, and printed where it has room, with the length of its text and as many pieces.

@@ -14,7 +14,7 @@ use Rattle.writing.proofs.Choose.{both}
 use Rattle.utf8.specs.Utf8.{well_formed}
 use Rattle.kinds.specs.Kinds.{unmarked, all_known}
 use Rattle.parsing.specs.Check.{checked_end, checked}
-use Rattle.parsing.specs.Listed.{placed, ended}
+use Rattle.parsing.specs.Listed.{placed, ended, Ended}
 use Rattle.grammar.specs.Parts.{Written, Part, text, percent, newline, element}
 use Rattle.grammar.specs.Elements.{kinds, Reads}
 use Rattle.grammar.specs.Readings.{Whole, StopsReading}
@@ -33,7 +33,6 @@ use Rattle.causes.specs.Causes.{AllPrinted, FirstUnprinted, NoRoom, longer_than_
 use Rattle.causes.specs.Causes as K
 use Rattle.causes.proofs.Inputs.{kinds_good, kinds_bad, checked-kinds, row_good, measured_bad, printed_bad}
 use Rattle.causes.proofs.Stops.{HasKind, none_stops, first_stops}
-use Rattle.parsing.specs.Listed.{Ended}
 use Rattle.refusals.specs.Numbers.{stop}
 use Rattle.refusals.specs.declared.Refusal.{Refusal}
 use Rattle.refusals.specs.declared.Stop.{Stop}

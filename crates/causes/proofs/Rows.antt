@@ -14,7 +14,7 @@ use Rattle.refusals.specs.Limits.{most_format, most_kinds}
 use Rattle.utf8.specs.Utf8.{well_formed}
 use Rattle.kinds.specs.Kinds.{unmarked, kind_of, is_known, all_known}
 use Rattle.parsing.specs.Check.{checked_end, checked}
-use Rattle.parsing.specs.Listed.{placed, ended}
+use Rattle.parsing.specs.Listed.{placed, ended, Ended}
 use Rattle.parsing.specs.declared.Checked.{Checked}
 use Rattle.grammar.proofs.Marks.{without_marks, as_many, unmarked-placed, unmarked-ended}
 use Rattle.rows.specs.Row.{kinds_of, is_row}
@@ -23,7 +23,6 @@ use Rattle.outcomes.specs.Printed.{printed_text, first_stop, unless_stopped, mea
 use Rattle.outcomes.proofs.Letters.{row-kinds}
 use Rattle.causes.proofs.Inputs.{kind_known}
 use Rattle.causes.proofs.Refused.{long-checked, malformed-checked, read-checked, long-measured, malformed-measured, read-measured}
-use Rattle.parsing.specs.Listed.{Ended}
 use Rattle.refusals.specs.Numbers.{stop}
 use Rattle.refusals.specs.declared.Stop.{Stop}
 use Rattle.refusals.specs.declared.Refusal.{Refusal}

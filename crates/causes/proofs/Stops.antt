@@ -33,7 +33,6 @@ use Rattle.causes.specs.Causes.{PartPrinted, AllPrinted, FirstUnprinted, here, e
 use Rattle.causes.proofs.Unprinted.{is_character, is_date, Shows, shows, stop, stops_15, stops_16, stops_18, goes_on}
 use Rattle.refusals.specs.declared.Stop.{Stop}
 use Rattle.refusals.specs.declared.Refusal.{Refusal}
-use Rattle.refusals.specs.declared.Stop.{Stop}
 use Rattle.refusals.specs.declared.Refusal.TheVariants as R
 use Rattle.refusals.specs.Numbers.{stop as stop_with}
 
@@ -191,7 +190,8 @@ module _ (s row : List ℕ) where
   abbrev stop_on : Refusal → ℕ → Option Stop
   stop_on n p = Some (stop_with n p)
 
-  pub first_stops : {ps : List Placed} {parts : List Part} {n : Refusal} {p : ℕ} → Lists (kinds_of row) ps parts → Each (HasKind row) parts → FirstUnprinted row parts n p
+  pub first_stops : {ps : List Placed} {parts : List Part} {n : Refusal} {p : ℕ}
+      → Lists (kinds_of row) ps parts → Each (HasKind row) parts → FirstUnprinted row parts n p
       → first_stop s row ps ≡ stop_on n p
   first_stops {n = n} {p = p} Q.nothing known u = elim u [ ]
   first_stops (Q.one {ps} {before} {x} l is from to) known (earlier u) =

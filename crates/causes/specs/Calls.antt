@@ -3,8 +3,7 @@ use Rattle.std.specs.Prelude.{ℕ, List, Option, None, Some, Err, Ok, Result}
 use Rattle.parsing.specs.Check.{checked}
 use Rattle.parsing.specs.declared.Checked.{Checked}
 use Rattle.rows.specs.Row.{kinds_of}
-use Rattle.outcomes.specs.Printed.{measured, printed}
-use Rattle.outcomes.specs.Printed.{Outcome}
+use Rattle.outcomes.specs.Printed.{measured, printed, Outcome}
 use Rattle.refusals.specs.declared.Stop.{Stop}
 
 -- Checking a format against kinds; measuring a row under a format; printing it into so many bytes and ends.

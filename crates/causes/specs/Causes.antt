@@ -90,7 +90,8 @@ pub data StopsBefore : Call → Refusal → ℕ → Type 0 where
   -- 4 to 13
   reading : {call : Call} {why : Refusal} {place : ℕ} → Begins call → StopsReading (format_in call) (kinds_in call) why place → StopsBefore call why place
   -- 15, 16 and 18
-  unprinted : {call : Call} {row : List ℕ} {parts : List Part} {why : Refusal} {place : ℕ} → Begins call → OfRow call row → Whole (format_in call) (kinds_in call) parts
+  unprinted : {call : Call} {row : List ℕ} {parts : List Part} {why : Refusal} {place : ℕ} → Begins call → OfRow call row
+      → Whole (format_in call) (kinds_in call) parts
       → FirstUnprinted row parts why place → StopsBefore call why place
 
 -- "text longer than output or than 4,294,967,295, or more pieces than ends", of n bytes of text and so many pieces.

@@ -1,13 +1,14 @@
 -- The texts of letters one behind the other, and the room that they take. Assumes nothing.
 use Prim.Native.Nat.{ℕ, suc, ◌+◌, ◌≤◌, ◌<◌}
 use mathlib.Core.Path.{◌≡◌, refl, sym, ap, ◌∙◌}
-use mathlib.Core.List.{List, [], ◌∷◌, ◌++◌}
-use mathlib.Core.List.{append_assoc, append-nil}
+use mathlib.Core.List.{List, [], ◌∷◌, ◌++◌, append_assoc, append-nil}
 use native.Mathlib.Omega.{arith}
 use lib.IntN.{ℤ}
 use lib.ListN.{length, get_or, take, drop, take-append-drop}
 use lib.Seq.{take-suc}
 use Rattle.writing.specs.Text.{has}
+use Rattle.writing.proofs.Laid.{laid_none, wrote_start}
+use Rattle.fields.proofs.Cased.{length-cased}
 use Rattle.kinds.specs.declared.letters.TimeFormat.{TimeFormat}
 use Rattle.kinds.specs.declared.letters.TimeFormat.TheVariants as T
 use Rattle.calendar.specs.declared.Moment.{Moment}
@@ -36,8 +37,8 @@ module _ (s : List ℕ) (i : ℕ) (h : i < length s) where
   one_more : take (i + 1) s ≡ take i s ++ (get_or s i 0 ∷ [])
   one_more = let e : i + 1 ≡ suc i = omega arith in ap (λ (n : ℕ). take n s) e ∙ take-suc s i 0 h
 
-  pub text-next : (z : ℤ) (m : Moment) → symbols_text z m (take (i + 1) s) ≡ symbols_text z m (take i s) ++ symbol_text z m (get_or s i 0)
-  text-next z m =
+  pub text_next : (z : ℤ) (m : Moment) → symbols_text z m (take (i + 1) s) ≡ symbols_text z m (take i s) ++ symbol_text z m (get_or s i 0)
+  text_next z m =
       ap (symbols_text z m) one_more ∙ texts_on z m (take i s) (get_or s i 0 ∷ [])
       ∙ ap (λ (t : List ℕ). symbols_text z m (take i s) ++ t) (text-one z m (get_or s i 0))
 
@@ -81,3 +82,9 @@ room_of_pattern T.RLower = omega arith
 room_of_pattern T.DUpper = omega arith
 room_of_pattern T.FUpper = omega arith
 room_of_pattern T.CLower = omega arith
+
+-- what the loop over letters needs
+pub ruleset rooms = (room_within, room_next, laid_none)
+
+-- what was written into a buffer, and how long it is in capitals
+pub ruleset copied = (wrote_start, length-cased)

@@ -55,7 +55,7 @@ pub(crate) fn pattern_of(component: TimeFormat) -> &'static [u8]
     }
 }
 
-// A month's name.
+// A month's name; of another number none, as in the definition. No array of names: it is as long, and months begin at 1, weekdays at 0.
 #[tactic(auto, unfolding(crate::specs::Names::name_of))]
 fn month_name(month: u64) -> &'static [u8]
     ensures { (result.now ≡ name_of month_names month) × (length result.now ≤ 20) }
@@ -77,7 +77,7 @@ fn month_name(month: u64) -> &'static [u8]
     }
 }
 
-// A weekday's name.
+// A weekday's name, in the same way.
 #[tactic(auto, unfolding(crate::specs::Names::name_of))]
 fn weekday_name(weekday: u64) -> &'static [u8]
     ensures { (result.now ≡ name_of weekday_names weekday) × (length result.now ≤ 20) }
@@ -152,7 +152,8 @@ fn name_part(letter: u8, m: Moment, timestamp: u64) -> TimePart
     }
 }
 
-// What a letter prints of a timestamp, whose moment is m.
+// What a letter prints of a timestamp, whose moment is m. Bytes name the parts, as in the definition: a component's
+// letter where one has the part alone, `~` for the sign.
 #[tactic(auto, unfolding(crate::specs::Components::symbol_text, writing::specs::Text::has))]
 pub(crate) fn part_of(letter: u8, m: Moment, timestamp: u64) -> TimePart
     ensures { (part_text result ≡ symbol_text (int_of 64 timestamp) m letter) × (Fitting result × (room_of result ≤ room letter)) }

@@ -27,6 +27,7 @@ fn write_number(out: &mut [u8], value: u64, least: usize) -> usize
 }
 
 // Writes a part. Answers its length.
+#[tactic(auto, using(writing::proofs::Laid::rooms))]
 fn write_part(out: &mut [u8], part: TimePart) -> usize
     requires { Fitting part × (room_of part ≤ length out.old) }
     ensures { Wrote out.old (part_text part) result out.new × (result ≤ room_of part) }
@@ -42,7 +43,7 @@ fn write_part(out: &mut [u8], part: TimePart) -> usize
 }
 
 // Writes what letters print of a timestamp, whose moment is m. Answers the length.
-#[tactic(auto, using(crate::proofs::Symbols::room_within, crate::proofs::Symbols::room_next))]
+#[tactic(auto, using(crate::proofs::Symbols::rooms), unfolding(crate::specs::Components::symbols_text, crate::specs::Steps::room_for))]
 fn write_symbols(out: &mut [u8], letters: &[u8], m: Moment, timestamp: u64) -> usize
     requires { room_for letters.now ≤ length out.old }
     ensures { Wrote out.old (symbols_text (int_of 64 timestamp) m letters.now) result out.new × (result ≤ room_for letters.now) }
@@ -65,6 +66,7 @@ fn write_component(out: &mut [u8], component: TimeFormat, timestamp: u64) -> usi
 }
 
 // Writes a component of a timestamp, in capitals where upper is set, where there is room for it. Answers its length.
+#[tactic(auto, using(crate::proofs::Symbols::copied))]
 pub fn put_component(out: &mut [u8], component: TimeFormat, timestamp: u64, upper: bool) -> usize
     ensures { Put out.old (cased upper (component_text component (int_of 64 timestamp))) result out.new × (result ≤ 168) }
 {

@@ -6,6 +6,9 @@ use native.Mathlib.Omega.{arith}
 use lib.Dec.{leb, ltb}
 use borrow.Author.Tests.{ltb-true, leb-true}
 use Rattle.utf8.specs.Scalars.{is_scalar}
+use Rattle.utf8.proofs.ScalarValues.{scalar_length}
+use Rattle.writing.proofs.Laid.{wrote_start}
+use Rattle.elements.proofs.Shown.{sized_text}
 
 -- a scalar value is no more than 0x10ffff
 pub scalar_within : (c : ℕ) → is_scalar c ≡ true → c ≤ 0x10ffff
@@ -16,3 +19,6 @@ scalar_within c = go (ltb c 0xd800) (leb 0xe000 c) (leb c 0x10ffff) refl refl
     go false true true p q h = leb-true c 0x10ffff q
     go false true false p q h = absurd (true≢false (sym h))
     go false false u p q h = absurd (true≢false (sym h))
+
+-- what the writer of a character needs
+pub ruleset characters = (scalar_within, scalar_length, wrote_start, sized_text)

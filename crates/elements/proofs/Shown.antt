@@ -21,3 +21,5 @@ module _ (d : List ℕ) (x : Shown) where
   pub sized_stop : (refusal : Refusal) → x ≡ Stops refusal → Sized d x (Err refusal) d
   sized_stop refusal e =
       record { size = sym (ap size_of e); below = tt; bytes = sym (ap (λ (y : Shown). laid_if_room d (text_of y)) e ∙ none-laid d) }
+
+pub ruleset shown = (sized_text, sized_stop, none-laid)

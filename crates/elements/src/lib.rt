@@ -25,10 +25,11 @@ use pieces::Source;
 use refusals::Refusal;
 use specifiers::Element;
 
-// The length of a text, or what stops it.
+// The length of a text, or what stops it. What a writer leaves is said with it in a word of its contract, `Sized`.
 pub type Size = Result<u64, Refusal>;
 
 // %c
+#[tactic(auto, using(crate::proofs::Characters::characters))]
 fn format_char(out: &mut [u8], e: Element, signed: bool, value: u64) -> Size
     ensures { Sized out.old (char_text e (integer_of signed value)) result out.new }
 {
@@ -84,6 +85,7 @@ fn format_boolean(out: &mut [u8], e: Element, value: u64) -> u64
 }
 
 // t, and T where upper is set.
+#[tactic(auto, using(crate::proofs::Shown::shown))]
 fn format_time(out: &mut [u8], component: TimeFormat, value: u64, upper: bool) -> Size
     ensures { Sized out.old (time_text upper component (int_of 64 value)) result out.new }
 {
@@ -100,6 +102,7 @@ fn format_time(out: &mut [u8], component: TimeFormat, value: u64, upper: bool) -
 }
 
 // Writes an element where there is room for it.
+#[tactic(auto, using(crate::proofs::PieceTexts::entries), unfolding(crate::specs::Texts::element_text, crate::specs::Ready::unpadded))]
 fn put_element(out: &mut [u8], fmt: &[u8], row: &[u8], e: Element) -> Size
     requires { Suited row.now e }
     ensures { Sized out.old (shown_entry row.now e (entry_at row.now e.argument)) result out.new }

@@ -22,7 +22,8 @@ pub enum Source {
     },
 }
 
-// The unpadded text that lies there.
+// The unpadded text that lies there: 01's form, "a function over two lent slices returns the part".
+#[tactic(auto, using(fields::proofs::Cuts::cut_shorter, std::proofs::lemmas::Grind::common_steps), unfolding(crate::specs::Ready::unpadded))]
 pub(crate) fn unpadded_text<'a>(fmt: &'a [u8], row: &'a [u8], source: Source) -> &'a [u8]
     requires { SourceIn fmt.now row.now source }
     ensures { (result.now ≡ unpadded fmt.now row.now source) × (length result.now < 2 ^ 32) }
@@ -36,6 +37,7 @@ pub(crate) fn unpadded_text<'a>(fmt: &'a [u8], row: &'a [u8], source: Source) ->
 }
 
 // Writes a piece's text where there is room for it; else writes nothing. Returns its length either way, or what stops it.
+#[tactic(auto, using(crate::proofs::Shown::sized_text), unfolding(crate::specs::Ready::unpadded, crate::specs::PieceTexts::shown_piece))]
 pub fn put_piece(out: &mut [u8], fmt: &[u8], row: &[u8], piece: Piece) -> Size
     requires { Ready fmt.now row.now piece }
     ensures { Sized out.old (shown_piece fmt.now row.now piece) result out.new }

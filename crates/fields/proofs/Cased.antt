@@ -23,3 +23,6 @@ pub length-cased : (u : Bool) (s : List ℕ) → length (cased u s) ≡ length s
 unfolding cased
 length-cased true s = length-map s capital
 length-cased false s = refl
+
+-- how long texts in capitals are
+pub ruleset lengths = length-cased

@@ -11,7 +11,6 @@ ghost use Rattle.numerals.specs.Digits.{decimal};
 ghost use Rattle.fields.specs.Texts.{side, padded_text, format_string, with_minus, signed_text};
 
 use frames::{Adjust, Mark, Prefix};
-use numerals::Radix;
 use specifiers::Element;
 use specifiers::flags::Flags;
 
@@ -27,40 +26,29 @@ fn side_of(flags: Flags) -> Adjust
 }
 
 // A text in capitals or not, padded to the element's width.
-#[tactic(auto, using(frames::proofs::Around::framing))]
+#[tactic(auto, using(crate::proofs::Cased::lengths))]
 pub fn put_padded(out: &mut [u8], e: Element, mark: Mark, text: &[u8]) -> u64
     requires { length text.now < 2 ^ 32 }
     ensures { Put out.old (padded_text e mark text.now) result out.new × (result < 2 ^ 42) }
 {
-    let n = text.len() as u64;
-    let framed = frames::layout::put_frame(
+    frames::layout::put_framed(
         out,
         specifiers::params::width_of(e.width),
         side_of(e.flags),
         mark,
         Prefix::NoPrefix,
-        n,
-    );
-    if let Some(at) = framed.at {
-        strings::write_cased(&mut out[at..], text, e.upper);
-    }
-    framed.added + n
+        text.len() as u64,
+        |place| strings::write_cased(place, text, e.upper),
+    )
 }
 
 // A text, cut to the precision, in capitals or not, padded to the width.
+#[tactic(auto, using(crate::proofs::Cuts::cut_shorter))]
 pub fn format_string(out: &mut [u8], e: Element, text: &[u8]) -> u64
     requires { length text.now < 2 ^ 32 }
     ensures { Put out.old (format_string e text.now) result out.new × (result < 2 ^ 42) }
 {
     put_padded(out, e, Mark::NoMark, strings::cut(e.precision, text))
-}
-
-// Writes a number's decimal digits. Answers how many.
-fn write_decimal(out: &mut [u8], n: u64) -> usize
-    requires { 20 ≤ length out.old }
-    ensures { Wrote out.old (decimal n) result out.new × (result ≤ 20) }
-{
-    numerals::write_digits(out, n, Radix::Decimal, numerals::decimal_len(n), false)
 }
 
 // Writes an integer's digits as text. Answers the length.
@@ -70,9 +58,9 @@ fn write_signed_text(out: &mut [u8], negative: bool, magnitude: u64) -> usize
 {
     if negative {
         out[0] = b'-';
-        1 + write_decimal(&mut out[1..], magnitude)
+        1 + numerals::write_decimal(&mut out[1..], magnitude)
     } else {
-        write_decimal(out, magnitude)
+        numerals::write_decimal(out, magnitude)
     }
 }
 

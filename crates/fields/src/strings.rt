@@ -32,15 +32,13 @@ fn cut_len(s: &[u8], n: usize) -> usize
 }
 
 // The part of a text that a precision leaves.
+#[tactic(auto, unfolding(crate::specs::Cut::cut_to))]
 pub fn cut<'a>(precision: Option<u32>, text: &'a [u8]) -> &'a [u8]
     ensures { result.now ≡ cut_to precision text.now }
 {
     match precision {
-        None => &text[0..],
-        Some(p) => {
-            let n = cut_len(text, p as usize);
-            &text[..n]
-        }
+        None => text,
+        Some(p) => &text[..cut_len(text, p as usize)],
     }
 }
 
@@ -55,7 +53,7 @@ fn write_upper(out: &mut [u8], text: &[u8]) -> usize
     text.len()
 }
 
-// Copies a text, in capitals where upper is set. Answers its length.
+// Copies a text, in capitals where upper is set. Answers its length. Here and below upper is a flag, as in the definition; a closure's contract is longer.
 #[tactic(auto, unfolding(crate::specs::Cut::cased))]
 pub(crate) fn write_cased(out: &mut [u8], text: &[u8], upper: bool) -> usize
     requires { length text.now ≤ length out.old }
@@ -69,6 +67,7 @@ pub(crate) fn write_cased(out: &mut [u8], text: &[u8], upper: bool) -> usize
 }
 
 // Copies a text, in capitals where upper is set, where there is room for it. Answers its length.
+#[tactic(auto, using(crate::proofs::Cased::lengths, writing::proofs::Laid::rooms))]
 pub fn put_cased(out: &mut [u8], text: &[u8], upper: bool) -> usize
     ensures { Put out.old (cased upper text.now) result out.new }
 {

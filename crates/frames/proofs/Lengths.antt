@@ -3,6 +3,7 @@ use mathlib.Core.Path.{◌≡◌}
 use Prim.Native.Nat.{◌+◌}
 use native.Mathlib.Omega.{arith}
 use lib.ListN.{length, length-append, length-replicate}
+use Rattle.writing.proofs.Chained.{wrote_fill, wrote_two}
 use Rattle.frames.specs.Frame.{opening, closing, prefix_text, marks, spaces, head_text, tail_text}
 use Rattle.frames.specs.declared.Mark.{Mark}
 use Rattle.frames.specs.declared.Prefix.{Prefix}
@@ -20,3 +21,5 @@ unfolding tail_text spaces
 tail_length f = rw (length-append, length-replicate) (omega arith)
 
 pub ruleset lengths = (marks-length, head_length, tail_length)
+
+pub ruleset tails = (tail_length, wrote_fill, wrote_two)

@@ -1,9 +1,10 @@
 // A frame written around the place of a text.
 // Ported in part from format_string.rs of datafusion-spark 55.2.0 (Apache-2.0; see NOTICE): the padding of format_signed,
 // format_unsigned, format_str and format_hex_float.
-ghost use Rattle.std.specs.Prelude.{◌≡◌, ◌+◌, ◌≤◌, leb, length};
-ghost use Rattle.writing.specs.Writers.{Wrote};
-ghost use Rattle.frames.specs.Frame.{marks, head_text, tail_text, frame_of};
+ghost use Rattle.std.specs.Prelude.{◌≡◌, ◌+◌, ◌^◌, ◌≤◌, ◌<◌, ℕ, List, leb, length};
+ghost use Rattle.std.specs.Fn.{FnOnceReturnsAtMut};
+ghost use Rattle.writing.specs.Writers.{Wrote, Put};
+ghost use Rattle.frames.specs.Frame.{marks, head_text, tail_text, frame_of, padded};
 ghost use Rattle.frames.specs.Around.{around, FramePut};
 
 use crate::{Adjust, Frame, Mark, Prefix};
@@ -36,7 +37,7 @@ fn write_short(out: &mut [u8], text: &[u8]) -> usize
 }
 
 // Writes mark and prefix. Answers their length.
-#[tactic(auto, using(crate::proofs::Lengths::lengths))]
+#[tactic(auto, using(crate::proofs::Lengths::lengths, writing::proofs::Chained::wrote_two))]
 fn write_marks(out: &mut [u8], mark: Mark, prefix: Prefix) -> usize
     requires { length (marks mark prefix) ≤ length out.old }
     ensures { Wrote out.old (marks mark prefix) result out.new }
@@ -57,7 +58,7 @@ fn write_head(out: &mut [u8], f: Frame) -> usize
 }
 
 // Writes what stands behind the text. Answers its length.
-#[tactic(auto, using(crate::proofs::Lengths::lengths))]
+#[tactic(auto, using(crate::proofs::Lengths::tails), unfolding(crate::specs::Frame::tail_text, crate::specs::Frame::spaces))]
 fn write_tail(out: &mut [u8], f: Frame) -> usize
     requires { length (tail_text f) ≤ length out.old }
     ensures { Wrote out.old (tail_text f) result out.new }
@@ -85,7 +86,7 @@ fn has_room(added: u64, n: u64, room: u64) -> bool
 }
 
 // Writes what brings a text of n to the width around its place, where there is room for all of it; else writes nothing.
-// Width, adjust, mark and prefix are no struct: it would be built at each of the three calls, and taken apart again by frame_of and its laws.
+// Width, adjust, mark and prefix are no struct: it would be built at each of the three calls of put_framed, and taken apart again by frame_of and its laws.
 pub fn put_frame(
     out: &mut [u8],
     width: u32,
@@ -104,4 +105,34 @@ pub fn put_frame(
         None
     };
     Framed { added, at }
+}
+
+// Writes a text of n bytes in its frame where there is room for it: `write` is called with the text's place. Answers the length.
+// Writers of columns each say `result < 2 ^ 42` of it again: a number has no field that could.
+// Without width and mark the frame is put by a call with constants for all but the prefix, which is what the compiler leaves of it.
+#[tactic(auto, using(crate::proofs::Around::framing))]
+pub fn put_framed<F: FnOnce(&mut [u8]) -> usize>(
+    out: &mut [u8],
+    width: u32,
+    adjust: Adjust,
+    mark: Mark,
+    prefix: Prefix,
+    n: u64,
+    write: F,
+) -> u64
+    requires below { n < 2 ^ 41 }
+    requires may_write { (place : _) → n ≤ length place.now → F.pre write place }
+    ensures text { (body : List ℕ) → n ≡ length body → ((d y : List ℕ) (r : ℕ) → FnOnceReturnsAtMut F.FnOnce write d r y → Wrote d body r y)
+        → Put out.old (padded width adjust mark prefix body) result out.new }
+    ensures bounded { result < 2 ^ 42 }
+{
+    let framed = if crate::is_bare(width, mark) {
+        put_frame(out, 0, Adjust::Right, Mark::NoMark, prefix, n)
+    } else {
+        put_frame(out, width, adjust, mark, prefix, n)
+    };
+    if let Some(at) = framed.at {
+        write(&mut out[at..]);
+    }
+    framed.added + n
 }

@@ -9,7 +9,7 @@ ghost use Rattle.std.specs.Prelude.{◌≡◌, ◌+◌, ◌^◌, ◌≤◌, ◌<
 ghost use Rattle.frames.specs.Frame.{opening, closing, prefix_text, head_text, tail_text, spare, frame_of};
 ghost use Rattle.frames.specs.Bare.{is_bare};
 
-// The mark of a number.
+// The mark of a number. None is a variant, no Option: each is asked for its texts, and none whether it is there.
 #[derive(Clone, Copy)]
 pub enum Mark {
     NoMark,
@@ -19,7 +19,7 @@ pub enum Mark {
     Brackets,
 }
 
-// What `#` puts in front of digits.
+// What `#` puts in front of digits; none is a variant, as among marks.
 #[derive(Clone, Copy)]
 pub enum Prefix {
     NoPrefix,
@@ -46,7 +46,7 @@ pub struct Frame {
     pub after: u32,
 }
 
-// What a mark puts in front of the digits.
+// What a mark puts in front of the digits. Two tables of marks, as the definitions: each half of a frame asks for its own.
 fn opening_text(mark: Mark) -> &'static [u8]
     ensures { result.now ≡ opening mark }
 {

@@ -78,7 +78,8 @@ module _ (s : List ℕ) (gates : List Gate) where
           (subst (λ (i : Refusal). ListCause s gates c i r) (number_tells m n (ap (λ (a : Changed). a.number) f)) x)
 
   pub done_exactly : (c : Change)
-      → (answer s gates c ≡ done → (n : Refusal) (p : ℕ) → ListCause s gates c n p → ⊥) × (((n : Refusal) (p : ℕ) → ListCause s gates c n p → ⊥) → answer s gates c ≡ done)
+      → (answer s gates c ≡ done → (n : Refusal) (p : ℕ) → ListCause s gates c n p → ⊥)
+      × (((n : Refusal) (p : ℕ) → ListCause s gates c n p → ⊥) → answer s gates c ≡ done)
   done_exactly c = (never, only)
     where
       never : answer s gates c ≡ done → (n : Refusal) (p : ℕ) → ListCause s gates c n p → ⊥

@@ -18,7 +18,7 @@ use Rattle.kinds.specs.declared.letters.ConversionType.{ConversionType}
 use Rattle.kinds.specs.declared.letters.ConversionType.TheVariants.{Time}
 use Rattle.kinds.specs.declared.Form.{Form}
 use Rattle.kinds.specs.declared.letters.TimeFormat.{TimeFormat}
-use Rattle.specifiers.specs.Specifier.{capital_taken, one_letter, time_letter, second_letter, letter_from}
+use Rattle.specifiers.specs.Specifier.{one_letter, time_letter, second_letter, letter_from}
 use Rattle.grammar.specs.Runs.{begins, all}
 use Rattle.grammar.specs.Pieces.{letters_of, component_letters, names_component, capitals}
 use Rattle.grammar.specs.Elements.{letters, time_letters, IsLetter, plain, time, kinds, needs, in_table, fits_bytes}
@@ -158,35 +158,38 @@ plain-letter l h = go (small_of l) (capital_of l) refl refl (all-has (λ b. was_
 
     named_so : (c : ConversionType) (u : Bool) → one l ≡ Ok ((c, u), 1) → (has (letters_of c) l ≡ true) × (u ≡ has capitals l) × (names_component c [] ≡ true)
     named_so c u e =
-        let p = both (has (letters_of c) l) (same u (has capitals l) && names_component c []) (ap (λ (t : Parsed (ConversionType × Bool)). names_read t l) (sym e) ∙ names) in
+        let r = ap (λ (t : Parsed (ConversionType × Bool)). names_read t l) (sym e) ∙ names in
+        let p = both (has (letters_of c) l) (same u (has capitals l) && names_component c []) r in
         let q = both (same u (has capitals l)) (names_component c []) p.1 in
         (p.0, same-is u (has capitals l) q.0, q.1)
 
     at_once : (rest : List ℕ) (at : ℕ) → letter_from (l ∷ rest) at ≡ one_letter (small_of l) (capital_of l) at
     at_once rest at = let n = not_time l h in simp (n.0, n.1)
 
+    read_as : (x y : Option ConversionType) (at : ℕ) → small_of l ≡ x → capital_of l ≡ y → one_letter (small_of l) (capital_of l) at ≡ one_letter x y at
+    read_as x y at p q = rw (p, q) refl
+
     go : (x y : Option ConversionType) → small_of l ≡ x → capital_of l ≡ y → was_read (one_letter x y 0) ≡ true → SomeLetter (l ∷ [])
     go (Some c) y p q r = record {
       conversion = c;
       upper = false;
       is = record {
-        read = λ rest at. at_once rest at ∙ ap (λ (x : Option ConversionType). one_letter x (capital_of l) at) p;
-        fits_as = λ k i. as_table k i ∙ ap (λ (x : Option ConversionType). fits_read (one_letter x (capital_of l) 0) k) p;
-        named = (named_so c false (ap (λ (x : Option ConversionType). one_letter x (capital_of l) 0) p)).0;
-        component = (named_so c false (ap (λ (x : Option ConversionType). one_letter x (capital_of l) 0) p)).2;
-        capital = (named_so c false (ap (λ (x : Option ConversionType). one_letter x (capital_of l) 0) p)).1;
+        read = λ rest at. at_once rest at ∙ read_as (Some c) y at p q;
+        fits_as = λ k i. as_table k i ∙ ap (λ (t : Parsed (ConversionType × Bool)). fits_read t k) (read_as (Some c) y 0 p q);
+        named = (named_so c false (read_as (Some c) y 0 p q)).0;
+        component = (named_so c false (read_as (Some c) y 0 p q)).2;
+        capital = (named_so c false (read_as (Some c) y 0 p q)).1;
       };
     }
     go None (Some c) p q r = record {
       conversion = c;
       upper = true;
       is = record {
-        read = λ rest at. at_once rest at ∙ ap (λ (x : Option ConversionType). one_letter x (capital_of l) at) p ∙ ap (λ (x : Option ConversionType). capital_taken x at) q;
-        fits_as = λ k i.
-            as_table k i ∙ ap (λ (x : Option ConversionType). fits_read (one_letter x (capital_of l) 0) k) p ∙ ap (λ (x : Option ConversionType). fits_read (capital_taken x 0) k) q;
-        named = (named_so c true (ap (λ (x : Option ConversionType). one_letter x (capital_of l) 0) p ∙ ap (λ (x : Option ConversionType). capital_taken x 0) q)).0;
-        component = (named_so c true (ap (λ (x : Option ConversionType). one_letter x (capital_of l) 0) p ∙ ap (λ (x : Option ConversionType). capital_taken x 0) q)).2;
-        capital = (named_so c true (ap (λ (x : Option ConversionType). one_letter x (capital_of l) 0) p ∙ ap (λ (x : Option ConversionType). capital_taken x 0) q)).1;
+        read = λ rest at. at_once rest at ∙ read_as None (Some c) at p q;
+        fits_as = λ k i. as_table k i ∙ ap (λ (t : Parsed (ConversionType × Bool)). fits_read t k) (read_as None (Some c) 0 p q);
+        named = (named_so c true (read_as None (Some c) 0 p q)).0;
+        component = (named_so c true (read_as None (Some c) 0 p q)).2;
+        capital = (named_so c true (read_as None (Some c) 0 p q)).1;
       };
     }
     go None None p q r = absurd (never r)

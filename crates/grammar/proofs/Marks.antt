@@ -12,11 +12,9 @@ use Rattle.kinds.specs.Kinds.{null_mark, unmarked, kind_of, kind_in}
 use Rattle.kinds.specs.declared.Kind.{Kind}
 use Rattle.specifiers.specs.Specifier.{specifier_at}
 use Rattle.parsing.specs.declared.arguments.Index.{Index}
-use Rattle.parsing.specs.Pieces.{start, argument_at, after_specifier, after_index, element_at, piece_at}
-use Rattle.parsing.specs.Listed.{Placed, and_rest, placed_from, placed, after_step, end_from, ended}
+use Rattle.parsing.specs.Pieces.{start, argument_at, after_specifier, after_index, element_at, piece_at, Step}
+use Rattle.parsing.specs.Listed.{Placed, and_rest, placed_from, placed, after_step, end_from, ended, Ended}
 use Rattle.parsing.specs.declared.Cursor.{Cursor}
-use Rattle.parsing.specs.Pieces.{Step}
-use Rattle.parsing.specs.Listed.{Ended}
 use Rattle.refusals.specs.declared.Refusal.{Refusal}
 
 -- Kind bytes without their null marks.

@@ -16,9 +16,8 @@ use Rattle.specifiers.specs.Specifier.{begins_with, after_letter, specifier_at}
 use Rattle.parsing.specs.Indexes.{index_at}
 use Rattle.parsing.specs.Pieces.{argument_at, after_specifier, after_index, element_at, piece_at}
 use Rattle.parsing.specs.declared.Cursor.{Cursor}
-use Rattle.parsing.proofs.Indexes.{argument-named}
-use Rattle.grammar.specs.Parts.{Choice, choice_bytes, Written, precision_bytes}
-use Rattle.grammar.specs.Parts.{Part, counted_by}
+use Rattle.parsing.proofs.Indexes.{argument_named}
+use Rattle.grammar.specs.Parts.{Choice, choice_bytes, Written, precision_bytes, Part, counted_by}
 use Rattle.grammar.specs.Elements.{kinds, Names, by_last, by_index, by_count, Begun, Named, Lettered, kind_at, fits_bytes}
 use Rattle.grammar.specs.Faults as K
 use Rattle.grammar.specs.Faults.{Fault}
@@ -68,7 +67,7 @@ module _ (s ks : List ℕ) (c : Cursor) (before : List Part) (at : At before c) 
       refused_step h refusal e = specifier_step h ∙ ap (after_specifier w.argument (counted_by w.choice c.count)) e
 
       pub first-argument : (h : Argued s ks c before at r here w rest) → 1 ≤ w.argument
-      first-argument h = (argument-named s (length ks) c _ h.read).0
+      first-argument h = (argument_named s (length ks) c _ h.read).0
 
     -- the letter of an element, and the kind it must fit
     module _ {w : Written} {rest : List ℕ} (known : KindsKnown ks) (x : Lettered (length ks) before r w rest) where
@@ -122,7 +121,8 @@ module _ (s ks : List ℕ) (c : Cursor) (before : List Part) (at : At before c) 
   fault_step known r here refusal (K.large_width {w} f run n) =
       refused_step r here f.named (flags_taken_lem s ks c before at r here w f).argued LargeNumber (width_refused s ks c before at r here w f run n)
   fault_step known r here refusal (K.large_precision {w} x run n) =
-      refused_step r here x.flagged.named (width_taken s ks c before at r here w x).flags.argued LargeNumber (precision_refused s ks c before at r here w x run n)
+      refused_step r here x.flagged.named (width_taken s ks c before at r here w x).flags.argued LargeNumber
+      (precision_refused s ks c before at r here w x run n)
   fault_step known r here refusal (K.no_letter {w} {rest} x n) =
       let h = parts_taken s ks c before at r here w x in
       refused_step r here x.wide.flagged.named h.width.flags.argued NoLetter

@@ -28,7 +28,8 @@ pub data Fault (ks : List ℕ) (before : List Part) (r : List ℕ) : Refusal →
   large_precision : {w : Written} {ds rest : List ℕ} → Wide (length ks) before r w (code "." ∷ (ds ++ rest)) → Run is_digit ds rest
       → largest_number < number_in ds → Fault ks before r LargeNumber
   -- "no such letter, or end"
-  no_letter : {w : Written} {rest : List ℕ} → Precise (length ks) before r w rest → begins (has (letters ++ ascii "tT")) rest ≡ false → Fault ks before r NoLetter
+  no_letter : {w : Written} {rest : List ℕ} → Precise (length ks) before r w rest → begins (has (letters ++ ascii "tT")) rest ≡ false
+      → Fault ks before r NoLetter
   -- "no such time letter, or end"
   no_time_letter : {w : Written} {t : ℕ} {rest : List ℕ} → Precise (length ks) before r w (t ∷ rest) → has (ascii "tT") t ≡ true
       → begins (has time_letters) rest ≡ false → Fault ks before r NoTimeLetter

@@ -2,7 +2,7 @@
 // Ported in part from format_string.rs of datafusion-spark 55.2.0 (Apache-2.0; see NOTICE): the text of format_hex_float.
 #![tactic(auto)]
 
-ghost use Rattle.std.specs.Prelude.{◌≡◌, Bool, ◌≤◌, length};
+ghost use Rattle.std.specs.Prelude.{◌≡◌, Bool, ◌^◌, ◌≤◌, ◌<◌, length};
 ghost use Rattle.writing.specs.Laid.{laid};
 ghost use Rattle.hexfloats.specs.Texts.{leading_letter, exponent_letter, exponent_text, hex_float_text};
 
@@ -10,7 +10,7 @@ use binary64::HexFloat;
 use numerals::{Radix, decimal_len, write_digits};
 use writing::{write_fill, write_text};
 
-// The letter before the exponent.
+// The letter before the exponent. One of two, as the digit before the point and hex_prefix of numbers are: one function for these is longer than each.
 fn exponent_letter(upper: bool) -> u8
     ensures { result ≡ exponent_letter upper }
 {
@@ -20,7 +20,8 @@ fn exponent_letter(upper: bool) -> u8
 // The length of the exponent's text, in small letters and capitals alike.
 #[tactic(auto, using(crate::proofs::Texts::lengths))]
 fn exponent_len(exponent: u32, bias: u32) -> usize
-    ensures { (u : Bool) → result ≡ length (exponent_text u exponent bias) }
+    ensures text { (u : Bool) → result ≡ length (exponent_text u exponent bias) }
+    ensures bounded { result ≤ 12 }
 {
     let places = decimal_len(u64::from(exponent.abs_diff(bias)));
     if exponent < bias {
@@ -37,20 +38,19 @@ fn write_exponent(out: &mut [u8], exponent: u32, bias: u32, upper: bool) -> usiz
     ensures { (result ≡ length (exponent_text upper exponent bias)) × (out.new ≡ laid out.old (exponent_text upper exponent bias)) }
 {
     let n = u64::from(exponent.abs_diff(bias));
-    let places = decimal_len(n);
-    if exponent < bias {
-        let a = write_text(out, &[exponent_letter(upper), b'-']);
-        a + write_digits(&mut out[a..], n, Radix::Decimal, places, false)
+    let a = if exponent < bias {
+        write_text(out, &[exponent_letter(upper), b'-'])
     } else {
-        let a = write_text(out, &[exponent_letter(upper)]);
-        a + write_digits(&mut out[a..], n, Radix::Decimal, places, false)
-    }
+        write_text(out, &[exponent_letter(upper)])
+    };
+    a + write_digits(&mut out[a..], n, Radix::Decimal, decimal_len(n), false)
 }
 
 // The length of the text, in small letters and capitals alike; its time does not grow with the digits or the zeros.
 #[tactic(auto, using(crate::proofs::Texts::lengths))]
 pub fn hex_float_len(h: HexFloat) -> u64
-    ensures { (u : Bool) → result ≡ length (hex_float_text u h) }
+    ensures text { (u : Bool) → result ≡ length (hex_float_text u h) }
+    ensures bounded { result < 2 ^ 34 }
 {
     let tail = exponent_len(h.exponent, h.bias) as u64;
     2 + u64::from(h.digits) + u64::from(h.zeros) + tail

@@ -10,7 +10,7 @@ ghost use Rattle.kinds.specs.Kinds.{signed_kind, kind_of, kind_in, is_null, all_
 use letters::{ConversionType, TimeFormat};
 use numerals::Radix;
 
-// An integer kind: its width in bits, and whether its values have a sign.
+// An integer kind: its width in bits, and whether its values have a sign. The width is a number, no name, since values are shifted and masked by it.
 #[derive(Clone, Copy, PartialEq, Eq)]
 pub struct IntegerKind {
     pub width: u32,
@@ -46,6 +46,7 @@ pub enum Form {
     Boolean,
     Text,
     Time(TimeFormat),
+    // Fits, and is refused when it is printed: 15, where a letter that does not fit is 12.
     NotPrinted,
 }
 
@@ -129,7 +130,7 @@ fn fit_of(conversion: ConversionType, kind: Kind) -> Option<Form>
     }
 }
 
-// Whether a conversion fits the kind of a row's kind byte, and how it is printed then.
+// Whether a conversion fits the kind of a row's kind byte, and how it is printed then. It takes any byte: one that names no kind fits nothing.
 pub fn validate(conversion: ConversionType, byte: u8) -> Option<Form>
     ensures { result ≡ fit_in conversion (kind_in byte) }
 {

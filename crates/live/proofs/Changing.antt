@@ -1,8 +1,10 @@
 -- What joining and leaving promise, from what their steps found and left. Assumes nothing.
-use Rattle.std.proofs.Common.{◌≡◌, ℕ, ◌+◌, ◌-◌, ◌<◌, ◌≤◌, get_or, eqb, true, false, List, [], ◌∷◌, ◌++◌, length, slice_index, max, take, Option, Some, None, Ok, Err, sym, refl, ◌∙◌, subst, arith, length-take, get_or-take, ne_eqb, le-leb}
+use Rattle.std.proofs.Common.{◌≡◌, ℕ, ◌+◌, ◌-◌, ◌<◌, ◌≤◌, get_or, eqb, true, false, List, [], ◌∷◌, ◌++◌, length, slice_index, max, take, Option, Some, None, Ok}
+use Rattle.std.proofs.Common.{Err, sym, refl, ◌∙◌, subst, arith, length-take, get_or-take, ne_eqb, le-leb}
 use Rattle.std.proofs.lemmas.List.Quantifiers.{position-Some}
 use Rattle.std.proofs.lemmas.Grind.{common_steps}
 use Rattle.std.proofs.lemmas.List.Sums.{fails_before_first}
+use Rattle.std.proofs.lemmas.Result.{err_from_is_err_and}
 use Rattle.std.specs.List.{position_or_len}
 use Rattle.std.specs.Option.{is_some}
 use borrow.Author.Tests.{lt-leb, eqb-true, eqb-false}
@@ -37,7 +39,8 @@ refuses s c m why place h =
     }
 
 -- A call that is done.
-does : (s : List ℕ) (c : Change) (m m' : GateList) → ((gates : List Gate) → Represents s gates m → (answer s gates c ≡ done) × Represents s (changed gates c) m')
+does : (s : List ℕ) (c : Change) (m m' : GateList)
+    → ((gates : List Gate) → Represents s gates m → (answer s gates c ≡ done) × Represents s (changed gates c) m')
     → Changes Represents s c m done m'
 unfolding after
 does s c m m' h =
@@ -158,3 +161,5 @@ module _ (s : List ℕ) (m : GateList) (n : ℕ) (size : length m.numbers ≡ 12
     pub is_left : Changes Represents s (leaves n) m done m'
     unfolding answer
     is_left = does s (leaves n) m m' (λ gates r. (simp (found gates r place e), rest gates r))
+
+pub ruleset joining = (none_of, is-present, is-full, is-unmeasured, err_from_is_err_and)

@@ -1,5 +1,6 @@
 -- The lengths of pieces, from the ends that measuring leaves. Assumes nothing.
-use Rattle.std.proofs.Common.{◌≡◌, ℕ, zero, suc, ◌%◌, ◌^◌, ◌<◌, ◌≤◌, List, [], map, length, get_or, take, Ok, Err, sym, refl, ap, ◌∙◌, zero-add, arith, length-take, get_or-take, le-ltb, lt-ltb}
+use Rattle.std.proofs.Common.{◌≡◌, ℕ, zero, suc, ◌%◌, ◌^◌, ◌<◌, ◌≤◌, List, [], map, length, get_or, take, Ok, Err, sym, refl, ap, ◌∙◌, zero-add, arith}
+use Rattle.std.proofs.Common.{length-take, get_or-take, le-ltb, lt-ltb}
 use native.Mathlib.Decide.{dec_lt}
 use lib.ListN.{get_or-append, get_or-map, get_or-eq_default, length-map}
 use Rattle.refusals.specs.Limits.{most_format, most_pieces}
@@ -27,7 +28,9 @@ accepted_short : (s row : List ℕ) (m : Measured) → measured s row ≡ Ok m �
 unfolding measured
 accepted_short s row m e =
     elim (dec_lt most_format (length s)) [
-      | yes h ↦ absurd (let f : ◌≡◌ {A = Outcome} (Err (stop LongFormat 0)) (Ok m) = simp (lt-ltb most_format (length s) h) at e in let z : ◌≡◌ {A = ℕ} 0 1 = cc in omega arith)
+      | yes h ↦
+          let f : ◌≡◌ {A = Outcome} (Err (stop LongFormat 0)) (Ok m) = simp (lt-ltb most_format (length s) h) at e in
+          absurd (let z : ◌≡◌ {A = ℕ} 0 1 = cc in omega arith)
       | no h ↦ omega arith
     ]
 
@@ -57,7 +60,8 @@ module _ (s row : List ℕ) (found : Measured) (a : measured s row ≡ Ok found)
 
   end_of : (k : ℕ) → k < found.pieces → get_or ends k 0 ≡ length (joined (take (suc k) ts)) % 4294967296
   end_of k h =
-      ap (λ (l : List ℕ). get_or l k 0) (w.slots ∙ ap (λ (l : List (List ℕ)). laid_ends l e) (all-texts s row a w)) ∙ nth_low ts e k fit (omega (arith, as_many))
+      ap (λ (l : List ℕ). get_or l k 0) (w.slots ∙ ap (λ (l : List (List ℕ)). laid_ends l e) (all-texts s row a w))
+      ∙ nth_low ts e k fit (omega (arith, as_many))
 
   small : (k : ℕ) → piece_length s row k < 2 ^ 32
   small k = text-short s row (accepted_short s row found a) (accepted s row found a).kept bytes k

@@ -1,5 +1,7 @@
 -- What memory holds where a gate was taken out: the others, the last in its place. Assumes nothing.
-use Rattle.std.proofs.Common.{◌≡◌, ℕ, suc, ◌+◌, ◌<◌, max, List, [], ◌∷◌, length, get_or, slice_index, take, sym, refl, ap, ◌∙◌, subst, arith, length-take, get_or-take, eq-eqb}
+use Rattle.std.proofs.Common.{◌≡◌, ℕ, suc, ◌+◌, ◌<◌, ◌≤◌, max, List, [], ◌∷◌, length, get_or, slice_index, take, drop, drop-cons, add-one, sym, refl, ap, ◌∙◌}
+use Rattle.std.proofs.Common.{subst, arith, length-take, get_or-take, eq-eqb}
+use Rattle.std.proofs.lemmas.List.{drop_all}
 use Rattle.std.specs.List.{SwappedAt}
 use Rattle.std.proofs.lemmas.Bool.Decides.{nat_tests}
 use native.Mathlib.Decide.{dec_lt}
@@ -11,6 +13,16 @@ use Rattle.gates.proofs.Places.{without-absent, taken_length, taken_there, taken
 use Rattle.live.specs.declared.GateList.{GateList}
 use Rattle.live.specs.Lists.{number_at, longest_at, length_at, Holds}
 use Rattle.live.specs.Steps.{column_largest, lowered}
+
+-- the first of the rows that are left, and none
+pub column_next : (rows : List (List ℕ)) (k i : ℕ) → i < length rows
+    → column_largest (drop i rows) k ≡ max (slice_index (get_or rows i []) k) (column_largest (drop (i + 1) rows) k)
+unfolding column_largest
+column_next rows k i h = rw add-one (ap (λ (l : List (List ℕ)). column_largest l k) (drop-cons rows i [] h))
+
+pub column_end : (rows : List (List ℕ)) (k i : ℕ) → length rows ≤ i → column_largest (drop i rows) k ≡ 0
+unfolding column_largest
+column_end rows k i h = rw (drop_all i rows h) refl
 
 -- What gates have at a piece is the largest of their lengths.
 column_is : (s : List ℕ) (k : ℕ) (rows : List (List ℕ)) (gates : List Gate) → length rows ≡ length gates
@@ -34,7 +46,8 @@ pub record Left (m : GateList) (place last : ℕ) (m' : GateList) : Type 0 where
   pub lower : (k : ℕ) → k < most_pieces → longest_at m' k ≡ lowered (length_at m' last k) (longest_at m k) (column_largest (take last m'.lengths) k)
 
 -- One gate less: the last takes its place.
-module _ (s : List ℕ) (gates : List Gate) (m : GateList) (place last : ℕ) (h : Holds s gates m) (there : place < length gates) (is : last + 1 ≡ length gates) where
+module _ (s : List ℕ) (gates : List Gate) (m : GateList) (place last : ℕ) (h : Holds s gates m) (there : place < length gates)
+    (is : last + 1 ≡ length gates) where
   abbrev rest : List Gate
   rest = taken_out place gates
 

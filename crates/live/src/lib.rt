@@ -12,7 +12,8 @@ ghost use Rattle.live.specs.Promises.{Emptied, Changes, Leaves, Lengths};
 use gates::Changed;
 use refusals::{MOST_GATES, MOST_PIECES, Refusal, Stop};
 
-// How many gates are present, their numbers, the largest length of each piece, and the length of each gate's pieces.
+// How many gates are present, their numbers, the largest length of each piece, and the length of each gate's pieces. No invariant: C lends any memory, and
+// each call says what it does where the memory represents a list.
 #[repr(C)]
 pub struct GateList {
     count: u32,
@@ -24,7 +25,8 @@ pub struct GateList {
 // panel.h lends as many words.
 const _: () = prove!(size_of::<GateList>() == 4 * 66177);
 
-// The length of a piece, of which end and end before are known in 32 bits.
+// The length of a piece, of which end and end before are known in 32 bits. Here and below pieces go by number, below 512: of each there are an end, lengths
+// and a largest one.
 fn piece_len(ends: &[u32; MOST_PIECES], pieces: usize, k: usize) -> u32
     requires { k < MOST_PIECES }
     ensures { result ≡ length_in ends.now pieces k }
@@ -56,6 +58,7 @@ fn enter_lengths(
 }
 
 // The largest k-th length of some gates, but no more than top: none is looked at behind one that reaches it.
+#[tactic(auto, using(crate::proofs::Leaving::column_next, crate::proofs::Leaving::column_end, std::proofs::lemmas::Grind::common_steps))]
 fn column_largest(rows: &[[u32; MOST_PIECES]], k: usize, top: u32) -> u32
     requires { k < MOST_PIECES }
     ensures { result ≡ min top (column_largest rows.now k) }
@@ -124,10 +127,11 @@ impl GateList {
     {
         self.numbers[..self.present()]
             .iter()
-            .position(|number| *number == gate)
+            .position(|&number| number == gate)
     }
 
     // Empties the list: it costs the clearing of the largest lengths. What other words hold does not matter.
+    #[tactic(auto, using(crate::proofs::Joining::emptied))]
     pub fn empty(&mut self)
         ensures { Emptied Represents self.new }
     {
@@ -136,6 +140,7 @@ impl GateList {
     }
 
     // A gate joins, or the list stays as it is and the answer is why.
+    #[tactic(auto, using(crate::proofs::Changing::joining))]
     fn try_join(&mut self, gate: u32, fmt: &[u8], row: &[u8]) -> Result<(), Stop>
         ensures { Changes Represents fmt.now (joins gate row.now) self.old (changed_of result) self.new }
     {
@@ -168,6 +173,7 @@ impl GateList {
     }
 
     // A gate leaves, or the list stays as it is and the answer is why.
+    #[tactic(auto, using(crate::proofs::Changing::is_absent))]
     fn try_leave(&mut self, gate: u32) -> Result<(), Stop>
         ensures { Leaves Represents gate self.old (changed_of result) self.new }
     {

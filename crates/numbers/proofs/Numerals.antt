@@ -5,6 +5,9 @@ use mathlib.Core.List.{List}
 use Prim.Native.Nat.{ℕ}
 use lib.IntN.{nat_abs}
 use Rattle.writing.specs.Choose.{choose}
+use Rattle.numerals.proofs.Bases.{based_places}
+use Rattle.numerals.proofs.Commas.{length-grouped-decimal}
+use Rattle.numerals.proofs.Digits.{twenty_places, length-numeral}
 use Rattle.numerals.specs.Digits.{decimal}
 use Rattle.numerals.specs.Grouping.{grouped}
 use Rattle.numerals.specs.Integers.{integer_of, is_negative}
@@ -29,3 +32,6 @@ module _ (e : Element) where
       ap (padded_number e (integer_mark e.flags (is_negative z)) NoPrefix) (commas_or_none e.flags.grouping (decimal (nat_abs z)))
   numeral-text R.Octal k v = refl
   numeral-text R.Hexadecimal k v = refl
+
+-- how many bytes a numeral takes
+pub ruleset lengths = (length-grouped-decimal, twenty_places, length-numeral, based_places)

@@ -6,12 +6,9 @@
 ghost use Rattle.std.specs.Prelude.{◌≡◌, ◌^◌, ◌≤◌, ◌<◌, length};
 ghost use Rattle.numerals.specs.Integers.{integer_of};
 ghost use Rattle.writing.specs.Writers.{Wrote, Put};
-ghost use Rattle.frames.specs.Frame.{frame_of};
-ghost use Rattle.frames.specs.Around.{FramePut};
 ghost use Rattle.numbers.specs.Numbers.{fill, padded_number, sign_mark, integer_mark, if_alternate, hex_prefix, numeral_text, float_mark, finite_text};
 ghost use Rattle.numbers.specs.Numerals.{digits_text, decimal_numeral, unsigned_numeral, numeral_of};
 
-use frames::layout::Framed;
 use frames::{Adjust, Mark, Prefix};
 use kinds::IntegerKind;
 use numerals::Radix;
@@ -29,50 +26,49 @@ pub struct Numeral {
     pub grouped: bool,
 }
 
-// Where a number's padding stands: zeros with `0`.
+// Where a number's padding stands: zeros with `0`. No method of Flags, as little as side_of in fields: specifiers has flags, frames has Adjust.
 fn fill_of(flags: Flags) -> Adjust
     ensures { result ≡ fill flags }
 {
     if flags.left {
-        return Adjust::Left;
+        Adjust::Left
+    } else if flags.zero {
+        Adjust::Zeros
+    } else {
+        Adjust::Right
     }
-    if flags.zero {
-        return Adjust::Zeros;
-    }
-    Adjust::Right
 }
 
 fn sign_mark(flags: Flags) -> Mark
     ensures { result ≡ sign_mark flags }
 {
     if flags.plus {
-        return Mark::Plus;
+        Mark::Plus
+    } else if flags.space {
+        Mark::Space
+    } else {
+        Mark::NoMark
     }
-    if flags.space {
-        return Mark::Space;
-    }
-    Mark::NoMark
-}
-
-fn integer_mark(flags: Flags, negative: bool) -> Mark
-    ensures { result ≡ integer_mark flags negative }
-{
-    if negative {
-        if flags.parentheses {
-            return Mark::Brackets;
-        }
-        return Mark::Minus;
-    }
-    sign_mark(flags)
 }
 
 pub fn float_mark(flags: Flags, negative: bool) -> Mark
     ensures { result ≡ float_mark flags negative }
 {
     if negative {
-        return Mark::Minus;
+        Mark::Minus
+    } else {
+        sign_mark(flags)
     }
-    sign_mark(flags)
+}
+
+fn integer_mark(flags: Flags, negative: bool) -> Mark
+    ensures { result ≡ integer_mark flags negative }
+{
+    if negative && flags.parentheses {
+        Mark::Brackets
+    } else {
+        float_mark(flags, negative)
+    }
 }
 
 // What `#` puts in front.
@@ -80,9 +76,10 @@ fn if_alternate(flags: Flags, prefix: Prefix) -> Prefix
     ensures { result ≡ if_alternate flags prefix }
 {
     if flags.alternate {
-        return prefix;
+        prefix
+    } else {
+        Prefix::NoPrefix
     }
-    Prefix::NoPrefix
 }
 
 // The prefix of hexadecimal digits.
@@ -90,69 +87,51 @@ fn hex_prefix(upper: bool) -> Prefix
     ensures { result ≡ hex_prefix upper }
 {
     if upper {
-        return Prefix::HexUpper;
+        Prefix::HexUpper
+    } else {
+        Prefix::HexLower
     }
-    Prefix::HexLower
 }
 
 // How many bytes a numeral's digits and commas take.
+#[tactic(auto, using(crate::proofs::Numerals::lengths))]
 fn numeral_len(n: Numeral) -> usize
     ensures { (result ≡ length (digits_text n)) × (result < 2 ^ 32) }
 {
     if n.grouped {
-        return numerals::grouping::grouped_len(n.value);
+        numerals::grouping::grouped_len(n.value)
+    } else {
+        numerals::digits_len(n.value, n.radix)
     }
-    let radix = n.radix;
-    numerals::digits_len(n.value, radix)
 }
 
 // Writes them. Answers len, which is how many they are.
+#[tactic(auto, using(crate::proofs::Numerals::lengths, numerals::proofs::Digits::numeral_in))]
 fn write_numeral(out: &mut [u8], n: Numeral, len: usize) -> usize
     requires { (len ≡ length (digits_text n)) × (len ≤ length out.old) }
     ensures { Wrote out.old (digits_text n) result out.new }
 {
     if n.grouped {
-        return numerals::grouping::write_grouped(out, n.value, len);
+        numerals::grouping::write_grouped(out, n.value, len)
+    } else {
+        numerals::write_digits(out, n.value, n.radix, len, n.upper)
     }
-    let radix = n.radix;
-    numerals::write_digits(out, n.value, radix, len, n.upper)
-}
-
-// The frame of a number. Without width and mark it is put by a call with constants for all but the prefix, which is what the compiler leaves of it.
-fn put_number_frame(
-    out: &mut [u8],
-    width: u32,
-    adjust: Adjust,
-    mark: Mark,
-    prefix: Prefix,
-    n: u64,
-) -> Framed
-    ensures { FramePut out.old (frame_of width adjust mark prefix n) n result out.new }
-{
-    if frames::is_bare(width, mark) {
-        return frames::layout::put_frame(out, 0, Adjust::Right, Mark::NoMark, prefix, n);
-    }
-    frames::layout::put_frame(out, width, adjust, mark, prefix, n)
 }
 
 // A numeral, padded to the element's width.
-#[tactic(auto, using(frames::proofs::Around::framing))]
 fn put_numeral(out: &mut [u8], e: Element, n: Numeral) -> u64
     ensures { Put out.old (padded_number e n.mark n.prefix (digits_text n)) result out.new × (result < 2 ^ 42) }
 {
     let len = numeral_len(n);
-    let framed = put_number_frame(
+    frames::layout::put_framed(
         out,
         specifiers::params::width_of(e.width),
         fill_of(e.flags),
         n.mark,
         n.prefix,
         len as u64,
-    );
-    if let Some(at) = framed.at {
-        write_numeral(&mut out[at..], n, len);
-    }
-    framed.added + len as u64
+        |place| write_numeral(place, n, len),
+    )
 }
 
 // %d
@@ -176,10 +155,10 @@ fn unsigned_numeral(prefix: Prefix, radix: Radix, upper: bool, bits: u64) -> Num
 {
     Numeral {
         mark: Mark::NoMark,
-        prefix: prefix,
+        prefix,
         value: bits,
-        radix: radix,
-        upper: upper,
+        radix,
+        upper,
         grouped: false,
     }
 }
@@ -188,19 +167,17 @@ fn unsigned_numeral(prefix: Prefix, radix: Radix, upper: bool, bits: u64) -> Num
 fn numeral_of(e: Element, radix: Radix, kind: IntegerKind, value: u64) -> Numeral
     ensures { result ≡ numeral_of e radix kind value }
 {
-    let flags = e.flags;
     match radix {
-        Radix::Decimal => decimal_numeral(flags, kind.signed, value),
+        Radix::Decimal => decimal_numeral(e.flags, kind.signed, value),
         Radix::Octal => {
             let bits = numerals::integers::low_bits(value, kind.width);
-            let prefix = if_alternate(flags, Prefix::Octal);
+            let prefix = if_alternate(e.flags, Prefix::Octal);
             unsigned_numeral(prefix, Radix::Octal, false, bits)
         }
         Radix::Hexadecimal => {
-            let upper = e.upper;
             let bits = numerals::integers::low_bits(value, kind.width);
-            let prefix = if_alternate(flags, hex_prefix(upper));
-            unsigned_numeral(prefix, Radix::Hexadecimal, upper, bits)
+            let prefix = if_alternate(e.flags, hex_prefix(e.upper));
+            unsigned_numeral(prefix, Radix::Hexadecimal, e.upper, bits)
         }
     }
 }
@@ -219,23 +196,18 @@ pub fn format_numeral(
 }
 
 // A finite float.
-#[tactic(auto, using(frames::proofs::Around::framing))]
 pub fn format_finite(out: &mut [u8], e: Element, bits: u64) -> u64
     ensures { Put out.old (finite_text e bits) result out.new × (result < 2 ^ 42) }
 {
     let parts = binary64::to_parts(bits);
     let float = binary64::hex_float(bits, e.precision);
-    let n = hexfloats::hex_float_len(float);
-    let framed = put_number_frame(
+    frames::layout::put_framed(
         out,
         specifiers::params::width_of(e.width),
         fill_of(e.flags),
         float_mark(e.flags, parts.negative),
         hex_prefix(e.upper),
-        n,
-    );
-    if let Some(at) = framed.at {
-        hexfloats::write_hex_float(&mut out[at..], float, e.upper);
-    }
-    framed.added + n
+        hexfloats::hex_float_len(float),
+        |place| hexfloats::write_hex_float(place, float, e.upper),
+    )
 }

@@ -1,13 +1,16 @@
 -- Laws of positional numerals, once over the base: the digits of a number, the number that digits denote, and how many digits a number has.
 -- Assumes nothing.
-use Rattle.std.proofs.Common.{◌≡◌, ℕ, zero, suc, ◌+◌, ◌-◌, ◌*◌, ◌/◌, ◌%◌, ◌^◌, ◌<◌, ◌≤◌, Bool, List, [], ◌∷◌, ◌++◌, length, replicate, sym, refl, ap, ◌∙◌, le_trans, le_of_eq, le_refl, lt_of_lt_of_le, add-zero, mod-lt, mod-eq_of_lt, mul_assoc, mul_comm, div-lt_iff_lt-mul, add-mul, one-mul, pow-suc, mul-zero, le-div_iff_mul-le, mul-one, mul-suc, le-mul_of_pos_right, div-one, add-one, arith, lit≤, length-append, pow_mono, pow-add, le-ltb, lt-ltb}
+use Rattle.std.proofs.Common.{◌≡◌, ℕ, zero, suc, ◌+◌, ◌-◌, ◌*◌, ◌/◌, ◌%◌, ◌^◌, ◌<◌, ◌≤◌, Bool, List, [], ◌∷◌, ◌++◌, length, replicate, sym, refl, ap}
+use Rattle.std.proofs.Common.{false, ◌∙◌, le_trans, le_of_eq, le_refl, lt_of_lt_of_le, add-zero, mod-lt, mod-eq_of_lt, mul_assoc, mul_comm}
+use Rattle.std.proofs.Common.{div-lt_iff_lt-mul, add-mul, one-mul, pow-suc, mul-zero, le-div_iff_mul-le, mul-one, mul-suc, le-mul_of_pos_right}
+use Rattle.std.proofs.Common.{div-one, add-one, arith, lit≤, length-append, pow_mono, pow-add, le-ltb, lt-ltb}
 use native.Mathlib.Decide.{dec_lt}
 use native.Mathlib.Nat.{pow-zero, pow-succ', one-le-pow}
 use native.Mathlib.Nat.{mod-one, div-div-eq-div-mul, div-lt_self, add-div_right, mul-div-le, lt-mul-div-succ}
 use lib.Arith.{mod-mul, digits_div, digits_mod, digits_lt}
 use lib.Count.{count_leading_zeros, leading_top}
 use Rattle.writing.proofs.FromRight.{from_right}
-use Rattle.numerals.specs.Digits.{digits_in, places_within, places, digits, number_from, number_of, letter_of, letters_of, numeral}
+use Rattle.numerals.specs.Digits.{digits_in, places_within, places, digits, number_from, number_of, letter_of, letters_of, numeral, decimal}
 
 -- Every digit is below the base.
 abbrev pub Below : ℕ → List ℕ → Type 0
@@ -231,6 +234,12 @@ pub length-numeral : (u : Bool) (b n : ℕ) → length (numeral u b n) ≡ place
 unfolding numeral digits
 length-numeral u b n = length_letters_in u b (places b n) n
 
+-- how long a numeral is, and a decimal one of 64 bits
+pub ruleset decimals = length-numeral
+
+pub at_most_twenty : (n : ℕ) → n < 2 ^ 64 → length (decimal n) ≤ 20
+at_most_twenty n h = omega (arith, length-numeral false 10 n, twenty_places n h)
+
 -- as many digits as a number has are its numeral
 pub numeral_in : (u : Bool) (b n k : ℕ) → k ≡ places b n → letters_of u (digits_in b k n) ≡ numeral u b n
 unfolding numeral digits
@@ -238,7 +247,10 @@ numeral_in u b n k e = rw e refl
 
 pub number_digits : (b n : ℕ) → 2 ≤ b → number_of b (digits b n) ≡ n
 unfolding digits number_of
-number_digits b n h = number-digits_in b 0 (places b n) n (omega arith) ∙ ap (λ (z : ℕ). 0 * b ^ places b n + z) (mod-eq_of_lt (places-fits b n h)) ∙ omega arith
+number_digits b n h =
+    number-digits_in b 0 (places b n) n (omega arith)
+    ∙ ap (λ (z : ℕ). 0 * b ^ places b n + z) (mod-eq_of_lt (places-fits b n h))
+    ∙ omega arith
 
 -- Digits without a leading zero are as many as their number has.
 places-number : (b : ℕ) (ds : List ℕ) → 2 ≤ b → Below b ds → Leading ds → places b (number_of b ds) ≡ length ds

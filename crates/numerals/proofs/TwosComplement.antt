@@ -1,5 +1,6 @@
 -- Laws of two's complement, once over the width. Assumes nothing.
-use Rattle.std.proofs.Common.{◌≡◌, ℕ, suc, ◌+◌, ◌-◌, ◌*◌, ◌%◌, ◌^◌, ◌<◌, ◌≤◌, leb, ℤ, pos, negsuc, neg_ℤ, nat_abs, sym, refl, ap, ◌∙◌, subst, mod-eq_of_lt, one-mul, sub-add_cancel, arith, pow_pos, le-ltb, lt-ltb, le-leb}
+use Rattle.std.proofs.Common.{◌≡◌, ℕ, suc, ◌+◌, ◌-◌, ◌*◌, ◌%◌, ◌^◌, ◌<◌, ◌≤◌, leb, ℤ, pos, negsuc, neg_ℤ, nat_abs, sym, refl, ap, ◌∙◌, subst}
+use Rattle.std.proofs.Common.{mod-eq_of_lt, one-mul, sub-add_cancel, arith, pow_pos, le-ltb, lt-ltb, le-leb}
 use native.Mathlib.Decide.{dec_lt}
 use native.Mathlib.Nat.{two-pow-succ}
 use lib.Pow.{pow-lt, not_mod}
@@ -59,7 +60,9 @@ pub low_bits : (w x : ℕ) → 1 ≤ w → w ≤ 64 → x < 2 ^ 64 → InWidth w
 low_bits w x h k b i =
     elim (dec_lt x (2 ^ 63)) [
       | yes p ↦ at (pos x) (int_of_low 64 x p) (low_positive w x h)
-      | no p ↦ at (negsuc (2 ^ 64 - x - 1)) (int_of_high 64 x (2 ^ 64 - x - 1) (omega arith) (omega arith)) (low_negative w x (2 ^ 64 - x - 1) h k (omega arith))
+      | no p ↦
+          let m = 2 ^ 64 - x - 1 in
+          at (negsuc m) (int_of_high 64 x m (omega arith) (omega arith)) (low_negative w x m h k (omega arith))
     ]
   where
     at : (z : ℤ) → int_of 64 x ≡ z → (InWidth w z → x % 2 ^ w ≡ bits_of w z) → x % 2 ^ w ≡ bits_of w (int_of 64 x)

@@ -10,7 +10,7 @@ pub struct SignMagnitude {
     pub magnitude: u64,
 }
 
-// Whether the 64-bit integer with the two's complement bits x is negative.
+// Whether the 64-bit integer with the two's complement bits x is negative. Here and below by the bits, as a row has them, and not by a cast to a signed type.
 pub fn is_negative(x: u64) -> bool
     ensures { result ≡ is_negative (int_of 64 x) }
 {
@@ -19,6 +19,7 @@ pub fn is_negative(x: u64) -> bool
 
 // The absolute value of the 64-bit integer with the two's complement bits x. 01: "the magnitude of the least 64-bit integer is kept, though its
 // negation wraps".
+#[tactic(auto, using(crate::proofs::TwosComplement::magnitude_low, crate::proofs::TwosComplement::magnitude_high))]
 pub fn magnitude(x: u64) -> u64
     ensures { result ≡ unsigned_abs (int_of 64 x) }
 {

@@ -8,7 +8,7 @@ pub mod integers;
 
 ghost use Rattle.std.specs.Prelude.{◌≡◌, ◌^◌, ◌<◌, ◌≤◌, length};
 ghost use Rattle.writing.specs.Writers.{Wrote};
-ghost use Rattle.numerals.specs.Digits.{digits_in, places, letter_of, letters_of};
+ghost use Rattle.numerals.specs.Digits.{digits_in, places, letter_of, letters_of, decimal};
 ghost use Rattle.numerals.specs.Bases.{base_of};
 
 // The base in which a number is written.
@@ -35,27 +35,24 @@ fn short_len(x: u64) -> usize
     requires { x < 10000 }
     ensures { result ≡ places 10 x }
 {
-    if x < 10 {
-        return 1;
+    match x {
+        0..=9 => 1,
+        10..=99 => 2,
+        100..=999 => 3,
+        _ => 4,
     }
-    if x < 100 {
-        return 2;
-    }
-    if x < 1000 {
-        return 3;
-    }
-    4
 }
 
 // How many decimal digits x has, four in a turn.
+#[tactic(auto, using(crate::proofs::Digits::twenty_places, crate::proofs::Digits::places_four))]
 pub fn decimal_len(x: u64) -> usize
     ensures { result ≡ places 10 x }
 {
     let mut v = x;
     let mut n = 0;
     while 10000 <= v {
-        v = v / 10000;
-        n = n + 4;
+        v /= 10000;
+        n += 4;
     }
     n + short_len(v)
 }
@@ -90,16 +87,14 @@ fn write_places(out: &mut [u8], x: u64, base: u64, n: usize, upper: bool) -> usi
     ensures { Wrote out.old (letters_of upper (digits_in base n x)) result out.new }
 {
     let mut v = x;
-    let mut i = n;
-    while 0 < i {
-        i = i - 1;
+    for i in (0..n).rev() {
         out[i] = digit_letter(v % base, upper);
-        v = v / base;
+        v /= base;
     }
     n
 }
 
-// The same. At each call the base is a number that stands there, so that it is compiled without division.
+// The same. At each call the base is a number that stands there, so that it is compiled without division; a const parameter would stand at the same place.
 pub fn write_digits(out: &mut [u8], x: u64, radix: Radix, n: usize, upper: bool) -> usize
     requires { n ≤ length out.old }
     ensures { Wrote out.old (letters_of upper (digits_in (base_of radix) n x)) result out.new }
@@ -109,4 +104,13 @@ pub fn write_digits(out: &mut [u8], x: u64, radix: Radix, n: usize, upper: bool)
         Radix::Octal => write_places(out, x, 8, n, upper),
         Radix::Hexadecimal => write_places(out, x, 16, n, upper),
     }
+}
+
+// Writes the decimal digits of x. Answers how many.
+#[tactic(auto, using(crate::proofs::Digits::numeral_in, crate::proofs::Digits::twenty_places, crate::proofs::Digits::decimals))]
+pub fn write_decimal(out: &mut [u8], x: u64) -> usize
+    requires { length (decimal x) ≤ length out.old }
+    ensures { Wrote out.old (decimal x) result out.new × (result ≤ 20) }
+{
+    write_digits(out, x, Radix::Decimal, decimal_len(x), false)
 }

@@ -10,11 +10,9 @@ use borrow.Author.Tests.{leb-true}
 use Rattle.refusals.specs.Limits.{most_format, largest_end}
 use Rattle.writing.proofs.Choose.{by_test, both}
 use Rattle.utf8.specs.Utf8.{well_formed}
-use Rattle.parsing.specs.Listed.{placed, ended}
+use Rattle.parsing.specs.Listed.{placed, ended, Ended}
 use Rattle.rows.specs.Row.{kinds_of, is_row}
-use Rattle.outcomes.specs.Printed.{printed_text, first_stop, unless_stopped, measured_end, measured, if_room, printed}
-use Rattle.parsing.specs.Listed.{Ended}
-use Rattle.outcomes.specs.Printed.{Outcome}
+use Rattle.outcomes.specs.Printed.{printed_text, first_stop, unless_stopped, measured_end, measured, if_room, printed, Outcome}
 use Rattle.outcomes.specs.declared.Measured.{Measured}
 use Rattle.refusals.specs.declared.Stop.{Stop}
 

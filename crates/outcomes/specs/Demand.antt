@@ -9,8 +9,7 @@ use Rattle.parsing.specs.declared.Piece.TheVariants.{Fixed, Byte, Element as AnE
 use Rattle.rows.specs.Row.{kinds_of, entry_at}
 use Rattle.elements.specs.PieceTexts.{piece_text}
 use Rattle.columns.specs.Columns.{ReadsBack}
-use Rattle.outcomes.specs.Printed.{texts, joined}
-use Rattle.outcomes.specs.Printed.{Outcome}
+use Rattle.outcomes.specs.Printed.{texts, joined, Outcome}
 
 -- "the end before (0 for the first)"
 abbrev pub end_before : List ℕ → ℕ → ℕ

@@ -4,16 +4,14 @@ use Rattle.refusals.specs.Limits.{most_format, largest_end}
 use Rattle.writing.specs.Choose.{choose}
 use Rattle.writing.specs.Laid.{laid}
 use Rattle.utf8.specs.Utf8.{well_formed}
-use Rattle.parsing.specs.Listed.{Placed, placed, ended}
+use Rattle.parsing.specs.Listed.{Placed, placed, ended, Ended}
 use Rattle.rows.specs.Row.{kinds_of, is_row}
 use Rattle.elements.specs.PieceTexts.{piece_text, piece_stop}
-use Rattle.parsing.specs.Listed.{Ended}
 use Rattle.refusals.specs.Numbers.{stop}
 use Rattle.refusals.specs.declared.Stop.{Stop}
 use Rattle.outcomes.specs.declared.Measured.{Measured}
 use Rattle.refusals.specs.declared.Refusal.{Refusal}
 use Rattle.refusals.specs.declared.Refusal.TheVariants.{LongFormat, MalformedFormat, BrokenRow, NoRoom}
-use Rattle.refusals.specs.declared.Stop.{Stop}
 
 -- The answer of a call: the text's length and the number of pieces, or a refusal and its place.
 abbrev pub Outcome : Type 0

@@ -4,8 +4,10 @@ use mathlib.Core.Path.{◌≡◌, refl, sym, ap, subst, ◌∙◌}
 use mathlib.Core.List.{List, ◌++◌}
 use Prim.Native.Nat.{ℕ, suc, ◌/◌, ◌^◌, ◌≤◌, ◌<◌}
 use native.Mathlib.Omega.{arith}
-use lib.ListN.{length, get_or, take, drop}
-use lib.Seq.{take_at, drop_at}
+use Rattle.std.proofs.lemmas.Result.{err_from_is_err_and}
+use lib.ListN.{length, get_or, take, drop, length-take}
+use lib.Seq.{take_at, drop_at, length-take-le}
+use Rattle.parsing.proofs.Cover.{few}
 use Rattle.writing.specs.Laid.{laid}
 use Rattle.parsing.specs.Listed.{placed}
 use Rattle.rows.specs.Row.{kinds_of}
@@ -58,7 +60,8 @@ module _ (s row : List ℕ) where
         (ap (take m.length) (text_of n_fits) ∙ take_at T (drop (length T) D) m.length (sym f.accepts.total), ends_of k_fits)
 
   -- demand 3 of the bytes, read as ends
-  small : (room slots : ℕ) (m : Measured) → Fitted s row room slots m → (i : ℕ) → i < length (ends_from 0 (texts s row)) → get_or (ends_from 0 (texts s row)) i 0 < 2 ^ 32
+  small : (room slots : ℕ) (m : Measured) → Fitted s row room slots m → (i : ℕ) → i < length (ends_from 0 (texts s row))
+      → get_or (ends_from 0 (texts s row)) i 0 < 2 ^ 32
   unfolding printed_text
   small room slots m f i h =
       let l = texts s row in
@@ -88,3 +91,7 @@ module _ (s row : List ℕ) where
         slots = z;
         demand = subst (λ (l : List ℕ). Demanded s row (printed s row (length d) (length e / 4)) out (ends_read l)) (sym z) v;
       }
+
+pub ruleset slots = (fitted, length-take, length-take-le, few)
+
+pub ruleset staged = (fitted, err_from_is_err_and)

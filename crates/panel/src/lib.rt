@@ -92,6 +92,7 @@ pub extern "C" fn panel_measure(fmt: &[u8], row: &[u8]) -> PrintAnswer
 }
 
 // Prints an accepted row by a pass of its own. A format has at most 512 pieces.
+#[tactic(auto, using(crate::proofs::Slots::slots))]
 fn print_long(fmt: &[u8], row: &[u8], out: &mut [u8], ends: &mut [u8], found: Measured)
     requires { printed fmt.now row.now (length out.old) (length ends.old / 4) ≡ Ok found }
     ensures { BothLaid fmt.now row.now out.old ends.old out.new ends.new }
@@ -102,6 +103,7 @@ fn print_long(fmt: &[u8], row: &[u8], out: &mut [u8], ends: &mut [u8], found: Me
 }
 
 // Prints an accepted row: from text and slots where these hold it, else by another pass.
+#[tactic(auto, using(crate::proofs::Slots::slots))]
 fn print_accepted(
     fmt: &[u8],
     row: &[u8],
@@ -123,7 +125,8 @@ fn print_accepted(
     }
 }
 
-// The pass that excludes every refusal leaves a short text and its ends ready to be copied.
+// The pass that excludes every refusal leaves a short text and its ends ready to be copied. Without a heap these are arrays, of which the first part counts.
+#[tactic(auto, using(crate::proofs::Slots::staged), unfolding(outcomes::specs::Printed::printed))]
 fn print_staged(fmt: &[u8], row: &[u8], out: &mut [u8], ends: &mut [u8]) -> Outcome
     ensures { Prints fmt.now row.now out.old ends.old result out.new ends.new }
 {
@@ -137,6 +140,7 @@ fn print_staged(fmt: &[u8], row: &[u8], out: &mut [u8], ends: &mut [u8]) -> Outc
 
 // Prints a row under a format.
 #[unsafe(no_mangle)]
+#[tactic(auto, using(crate::proofs::Slots::prints))]
 pub extern "C" fn panel_print(
     fmt: &[u8],
     row: &[u8],

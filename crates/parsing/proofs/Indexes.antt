@@ -20,5 +20,5 @@ module _ (s : List ℕ) (kinds : ℕ) (c : Cursor) where
       by_test (NamedIn kinds (c.at + 1)) (begins_with (code "<") (drop (c.at + 1) s)) _ _
       (λ _. same_in kinds (c.at + 1) c.last (c.at + 2) c.count (omega arith)) (λ _. index_in kinds (c.at + 1) s c.count)
 
-  pub argument-named : (x : Index) → argument_at s kinds c ≡ Ok x → (1 ≤ x.argument) × (x.argument ≤ kinds) × (c.at + 1 ≤ x.next)
-  argument-named x e = rw e at argument_in_lem
+  pub argument_named : (x : Index) → argument_at s kinds c ≡ Ok x → (1 ≤ x.argument) × (x.argument ≤ kinds) × (c.at + 1 ≤ x.next)
+  argument_named x e = rw e at argument_in_lem

@@ -43,9 +43,9 @@ module _ (s : List ℕ) (at : ℕ) (e : is_index s at ≡ true) where
   index_digit = parts.0
 
   -- the place behind an index's digits is that of its `$`
-  pub index-inside : (n next : ℕ) → number_at s at ≡ Ok (n, next) → next < length s
+  pub index_inside : (n next : ℕ) → number_at s at ≡ Ok (n, next) → next < length s
   unfolding number_at number_taken
-  index-inside n next =
+  index_inside n next =
       by_test (λ (t : Parsed ℕ). t ≡ Ok (n, next) → next < length s) (leb (number_of 10 (leading_digits (drop at s))) largest_number) _ _
       (λ _ q. behind q (begins-inside s (at + length (leading_digits (drop at s))) (code "$") parts.1))
       (λ _ q. absurd (let z : ◌≡◌ {A = ℕ} 0 1 = cc in omega arith))

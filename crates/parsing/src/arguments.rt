@@ -17,27 +17,25 @@ pub struct Index {
 fn is_index(fmt: &[u8], at: usize) -> bool
     ensures { result ≡ is_index fmt.now at }
 {
-    at < fmt.len()
-        && matches!(fmt[at], b'1'..=b'9')
+    matches!(fmt.get(at), Some(b'1'..=b'9'))
         && specifiers::is_byte(fmt, specifiers::params::digits_end(fmt, at), b'$')
 }
 
-// An argument, if there are so many kinds.
-fn named(argument: usize, next: usize, count: usize, kinds: usize) -> Result<Index, Refusal>
-    ensures { result ≡ among_kinds kinds argument next count }
-{
-    if kinds < argument {
-        return Err(Refusal::NoSuchArgument);
+impl Index {
+    // This argument, if there are so many kinds.
+    fn among(self, kinds: usize) -> Result<Index, Refusal>
+        ensures { result ≡ among_kinds kinds self.argument self.next self.count }
+    {
+        if kinds < self.argument {
+            return Err(Refusal::NoSuchArgument);
+        }
+        Ok(self)
     }
-    Ok(Index {
-        argument,
-        next,
-        count,
-    })
 }
 
-// The argument of an element that names one by an index, or takes the next in the running count.
-#[tactic(auto, unfolding(crate::specs::Indexes::index_at))]
+// The argument of an element that names one by an index, or takes the next in the running count. The count is the cursor's and the number of kinds is the
+// row's: a struct of both would be made for two calls and say no more.
+#[tactic(auto, using(crate::proofs::Named::index_inside), unfolding(crate::specs::Indexes::index_at))]
 pub(crate) fn take_index(
     fmt: &[u8],
     at: usize,
@@ -51,16 +49,25 @@ pub(crate) fn take_index(
     }
     if is_index(fmt, at) {
         let (value, end) = specifiers::params::take_number(fmt, at)?;
-        return named(value as usize, end + 1, count, kinds);
+        let index = Index {
+            argument: value as usize,
+            next: end + 1,
+            count,
+        };
+        return index.among(kinds);
     }
     // The sum of the next line is formed only where it is at most the count of kinds.
     if kinds <= count {
         return Err(Refusal::NoSuchArgument);
     }
-    named(count + 1, at, count + 1, kinds)
+    Ok(Index {
+        argument: count + 1,
+        next: at,
+        count: count + 1,
+    })
 }
 
-// The argument of an element behind `%<`: the last one named without `<`, 0 where there is none.
+// The argument of an element behind `%<`: the last one named without `<`, 0 where there is none, as a cursor has it.
 pub(crate) fn same_index(
     last: usize,
     next: usize,
@@ -72,5 +79,10 @@ pub(crate) fn same_index(
     if last == 0 {
         return Err(Refusal::NoElementBefore);
     }
-    named(last, next, count, kinds)
+    let index = Index {
+        argument: last,
+        next,
+        count,
+    };
+    index.among(kinds)
 }

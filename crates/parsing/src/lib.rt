@@ -7,14 +7,14 @@ pub mod arguments;
 pub mod scanning;
 
 ghost use Rattle.std.specs.Prelude.{◌≡◌, ◌<◌, length};
-ghost use Rattle.parsing.specs.Pieces.{start, passed, argument_at, element_at, piece_at};
+ghost use Rattle.parsing.specs.Pieces.{start, argument_at, element_at, piece_at};
 ghost use Rattle.parsing.specs.Check.{argument_of};
 
 use arguments::Index;
 use refusals::{Refusal, Stop};
 use specifiers::Element;
 
-// A piece: part of the format as it stands, a byte that does not stand in it (`%n`), or an element.
+// A piece: part of the format as it stands, by offsets, which is 01's form, a byte that does not stand in it (`%n`), or an element.
 #[derive(Clone, Copy)]
 pub enum Piece {
     Fixed { start: usize, len: usize },
@@ -24,7 +24,7 @@ pub enum Piece {
 
 // Where reading stands: the offset, the running count, and the argument that `%<` takes. This is 0 for none and no Option, since a cursor of any numbers then
 // names an argument from 1 on.
-#[derive(Clone, Copy)]
+#[derive(Clone, Copy, Default)]
 pub struct Cursor {
     pub at: usize,
     pub count: usize,
@@ -58,7 +58,7 @@ fn take_argument(fmt: &[u8], c: Cursor, kinds: usize) -> Result<Index, Refusal>
 }
 
 // The element whose `%` stands at the cursor.
-#[tactic(auto, unfolding(crate::specs::Pieces::element_at))]
+#[tactic(auto, using(crate::proofs::Indexes::argument_named), unfolding(crate::specs::Pieces::element_at))]
 fn take_element(fmt: &[u8], kinds: &[u8], c: Cursor) -> Step
     requires { c.at < length fmt.now }
     ensures { result ≡ element_at fmt.now kinds.now c }
@@ -75,40 +75,34 @@ fn take_element(fmt: &[u8], kinds: &[u8], c: Cursor) -> Step
     Ok((Piece::Element(element), next))
 }
 
-// The cursor behind a piece that uses no argument.
-fn passed_by(c: Cursor, at: usize) -> Cursor
-    ensures { result ≡ passed c at }
-{
-    Cursor { at, ..c }
-}
-
 // The next piece from a cursor on: behind the format's end, an empty one.
+#[tactic(auto, using(crate::proofs::Progress::text_in), unfolding(crate::specs::Pieces::piece_at, crate::specs::Texts::text_length))]
 pub fn next_piece(fmt: &[u8], kinds: &[u8], c: Cursor) -> Step
     ensures { result ≡ piece_at fmt.now kinds.now c }
 {
     let at = c.at;
-    if fmt.len() <= at {
-        return Ok((Piece::Fixed { start: at, len: 0 }, passed_by(c, at)));
+    match fmt.get(at) {
+        None => Ok((Piece::Fixed { start: at, len: 0 }, c)),
+        Some(b'%') => match fmt.get(at + 1) {
+            Some(b'%') => {
+                let percent = Piece::Fixed {
+                    start: at + 1,
+                    len: 1,
+                };
+                Ok((percent, Cursor { at: at + 2, ..c }))
+            }
+            Some(b'n') => Ok((Piece::Byte(b'\n'), Cursor { at: at + 2, ..c })),
+            _ => take_element(fmt, kinds, c),
+        },
+        Some(_) => {
+            let len = scanning::text_len(&fmt[at..]);
+            let text = Piece::Fixed { start: at, len };
+            Ok((text, Cursor { at: at + len, ..c }))
+        }
     }
-    let second = at + 1;
-    if fmt[at] != b'%' {
-        let len = scanning::text_len(&fmt[at..]);
-        return Ok((Piece::Fixed { start: at, len }, passed_by(c, at + len)));
-    }
-    if specifiers::is_byte(fmt, second, b'%') {
-        let percent = Piece::Fixed {
-            start: second,
-            len: 1,
-        };
-        return Ok((percent, passed_by(c, at + 2)));
-    }
-    if specifiers::is_byte(fmt, second, b'n') {
-        return Ok((Piece::Byte(b'\n'), passed_by(c, at + 2)));
-    }
-    take_element(fmt, kinds, c)
 }
 
-// The argument that a piece uses, 0 for none.
+// The argument that a piece uses, 0 for none: of these the largest is what 01 returns, and arguments count from 1.
 pub fn argument_of(piece: Piece) -> usize
     ensures { result ≡ argument_of piece }
 {
@@ -122,9 +116,5 @@ pub fn argument_of(piece: Piece) -> usize
 pub fn first_cursor() -> Cursor
     ensures { result ≡ start }
 {
-    Cursor {
-        at: 0,
-        count: 0,
-        last: 0,
-    }
+    Cursor::default()
 }

@@ -13,8 +13,7 @@ use Rattle.writing.specs.Laid.{laid}
 use Rattle.writing.specs.Writers.{laid_if_room}
 use Rattle.writing.proofs.Choose.{by_test}
 use Rattle.writing.proofs.Laid.{laid_none, laid-room, laid_next, lent_back}
-use Rattle.printing.specs.Tallies.{behind, laid_behind}
-use Rattle.printing.specs.Tallies.{Tally}
+use Rattle.printing.specs.Tallies.{behind, laid_behind, Tally}
 
 -- its own first bytes
 pub laid_self : (d : List ℕ) (n : ℕ) → n ≤ length d → laid d (take n d) ≡ d

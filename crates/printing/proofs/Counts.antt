@@ -10,10 +10,9 @@ use Rattle.elements.specs.Texts.{Shown, Text, Stops, text_of, stop_of}
 use Rattle.elements.specs.Sizes.{size_of}
 use Rattle.elements.specs.PieceTexts.{shown_piece}
 use Rattle.outcomes.specs.Printed.{texts_of, joined, stop_at, first_stop, unless_stopped}
-use Rattle.printing.specs.Tallies.{added, counted, tallied, outcome_of}
+use Rattle.printing.specs.Tallies.{added, counted, tallied, outcome_of, Tally}
 use Rattle.refusals.specs.Numbers.{stop}
 use Rattle.refusals.specs.declared.Stop.{Stop}
-use Rattle.printing.specs.Tallies.{Tally}
 
 -- A length, unless a piece stops the count.
 abbrev pub unless_stop : Option Stop → ℕ → Tally

@@ -1,6 +1,7 @@
 -- What 1 and 2, of a format by itself, leave of checking, measuring and staging. Assumes nothing.
+use Rattle.std.proofs.lemmas.Result.{err_from_is_err_and}
+use borrow.Author.Tests.{le-leb, lt-leb, lt-ltb, le-ltb, ltb-true, ltb-false}
 use Rattle.std.proofs.Common.{◌≡◌, ℕ, ◌≤◌, ◌<◌, true, false, ◌&&◌, List, [], length, leb, Ok, Err, sym, arith}
-use borrow.Author.Tests.{lt-ltb, le-ltb, le-leb, lt-leb, ltb-true, ltb-false}
 use lib.Dec.{ltb}
 use Rattle.refusals.specs.Limits.{most_format, most_kinds}
 use Rattle.refusals.specs.Numbers.{stop}
@@ -12,6 +13,9 @@ use Rattle.utf8.specs.Utf8.{well_formed}
 use Rattle.kinds.specs.Kinds.{all_known}
 use Rattle.parsing.specs.Check.{checked_end, checked}
 use Rattle.parsing.specs.Listed.{Ended, placed, ended}
+use Rattle.rows.proofs.Rows.{row_shape, row_read, row_broken}
+use Rattle.printing.proofs.Fitting.{texts-none, ends_none}
+use Rattle.printing.proofs.Outcomes.{walk_measured}
 use Rattle.rows.specs.Row.{kinds_of, is_row}
 use Rattle.outcomes.specs.Printed.{measured_end, measured}
 use Rattle.printing.specs.Passes.{walk_texts}
@@ -71,3 +75,9 @@ module _ (s : List ℕ) (u : Unit {0}) (e : format_stop s ≡ Ok u) where
   pub staged-passed : (row : List ℕ) → staged_texts s row ≡ walk_texts (is_row row) s row (kinds_of row)
   unfolding staged_texts
   staged-passed row = simp (le-leb (length s) most_format passed.0, passed.1)
+
+pub ruleset checks = (checked-stopped, checked-passed, err_from_is_err_and, le-leb, lt-leb)
+
+pub ruleset passes = (measured-stopped, measured-passed, staged-stopped, staged-passed, passed, err_from_is_err_and)
+
+pub ruleset stages = (passes, row_read, row_broken, row_shape, texts-none, ends_none, walk_measured)

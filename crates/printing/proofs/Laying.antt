@@ -13,21 +13,19 @@ use Rattle.writing.proofs.Choose.{by_test}
 use Rattle.parsing.specs.Pieces.{start, piece_at}
 use Rattle.parsing.specs.Check.{argument_of, largest_of}
 use Rattle.parsing.specs.Covers.{PieceIn}
-use Rattle.parsing.specs.Listed.{Placed, placed, ended}
+use Rattle.parsing.specs.Listed.{Placed, placed, ended, Ended}
 use Rattle.parsing.specs.declared.Piece.{Piece}
 use Rattle.parsing.specs.declared.Cursor.{Cursor}
 use Rattle.parsing.proofs.Cover.{largest-one}
 use Rattle.parsing.proofs.Sound.{sound}
 use Rattle.elements.specs.PieceTexts.{piece_text}
 use Rattle.elements.specs.Ready.{Ready}
-use Rattle.printing.specs.Tallies.{counted, tallied, with_end, laid_behind, shown_texts, laid_texts, laid_ends, TallyBelow}
+use Rattle.printing.specs.Tallies.{counted, tallied, with_end, laid_behind, shown_texts, laid_texts, laid_ends, TallyBelow, Tally}
 use Rattle.printing.specs.Passes.{walk_texts, pass_tally, Passed, Walk}
 use Rattle.printing.proofs.Reached.{Reached, reached_start, next-inside, taken_next, reached_next}
 use Rattle.printing.proofs.Counts.{tallied-one}
 use Rattle.printing.proofs.Fitting.{texts-none, ends_none}
 use Rattle.printing.proofs.Next.{bytes_next, slots_next}
-use Rattle.parsing.specs.Listed.{Ended}
-use Rattle.printing.specs.Tallies.{Tally}
 
 -- The texts of pieces, in a pass that prints; none in one that only reads.
 abbrev pass_texts : Bool → List ℕ → List ℕ → List Placed → List (List ℕ)

@@ -10,12 +10,11 @@ use Rattle.elements.specs.Sizes.{size_of}
 use Rattle.elements.specs.PieceTexts.{shown_piece, piece_text}
 use Rattle.outcomes.specs.Printed.{texts_of, joined, first_stop}
 use Rattle.outcomes.proofs.Texts.{texts-length}
-use Rattle.printing.specs.Tallies.{added, counted, tallied, with_end, laid_behind, shown_texts, laid_texts, laid_ends}
+use Rattle.printing.specs.Tallies.{added, counted, tallied, with_end, laid_behind, shown_texts, laid_texts, laid_ends, Tally}
 use Rattle.printing.proofs.Shown.{next_text, shown-one, shown-all}
 use Rattle.printing.proofs.Counts.{unless_stop, tally-is}
 use Rattle.printing.proofs.Fitting.{text-behind, empty_behind, end-behind}
 use Rattle.refusals.specs.declared.Stop.{Stop}
-use Rattle.printing.specs.Tallies.{Tally}
 
 -- what was added up over pieces is the length of their texts, unless one of them is not printed
 tally-shown : (s row : List ℕ) (ps : List Placed) → tallied s row (Ok 0) ps ≡ unless_stop (first_stop s row ps) (length (joined (shown_texts s row ps)))

@@ -6,14 +6,13 @@ use mathlib.Core.List.{List}
 use Prim.Native.Nat.{ℕ}
 use lib.ListN.{length}
 use Rattle.parsing.specs.Check.{largest_of, checked_end}
-use Rattle.parsing.specs.Listed.{Placed, placed, ended}
+use Rattle.parsing.specs.Listed.{Placed, placed, ended, Ended}
 use Rattle.rows.specs.Row.{kinds_of}
 use Rattle.outcomes.specs.Printed.{texts, printed_text, measured_end}
 use Rattle.printing.specs.Tallies.{tallied, outcome_of}
 use Rattle.printing.specs.Passes.{checked_of, checked_by, Walk}
 use Rattle.printing.specs.declared.passes.Walked.{Walked}
 use Rattle.printing.proofs.Counts.{tally-end}
-use Rattle.parsing.specs.Listed.{Ended}
 
 -- by where reading ended
 checked_by_lem : (x : Ended) (ps : List Placed) → checked_of x (length ps) (largest_of ps) ≡ checked_end x ps

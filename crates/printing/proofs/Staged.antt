@@ -1,7 +1,7 @@
 -- What `stage` leaves of an accepted format and row: the text, where it has room, and, whether it has or not, its ends, where these do. Assumes nothing.
 use Rattle.std.specs.Prelude.{Option, None, Some, Err, Ok}
-use mathlib.Core.Path.{◌≡◌, refl, sym, ap, subst, ◌∙◌}
-use mathlib.Core.List.{List, []}
+use mathlib.Core.Path.{◌≡◌, refl, subst}
+use mathlib.Core.List.{List}
 use Prim.Native.Nat.{ℕ, ◌≤◌}
 use native.Mathlib.Omega.{arith}
 use lib.Dec.{ltb}
@@ -11,16 +11,14 @@ use Rattle.refusals.specs.Limits.{most_format, largest_end}
 use Rattle.writing.specs.Laid.{laid}
 use Rattle.writing.proofs.Choose.{by_test}
 use Rattle.utf8.specs.Utf8.{well_formed}
-use Rattle.parsing.specs.Listed.{placed, ended}
+use Rattle.parsing.specs.Listed.{placed, ended, Ended}
 use Rattle.rows.specs.Row.{kinds_of, is_row}
-use Rattle.outcomes.specs.Printed.{texts, printed_text, ends_from, first_stop, unless_stopped, measured_end, measured}
+use Rattle.outcomes.specs.Printed.{texts, printed_text, ends_from, first_stop, unless_stopped, measured_end, measured, Outcome}
 use Rattle.outcomes.proofs.Texts.{texts-length}
-use Rattle.printing.specs.Tallies.{shown_texts, laid_texts, laid_ends}
+use Rattle.printing.specs.Tallies.{shown_texts}
 use Rattle.printing.specs.Stages.{staged_texts, Staged}
-use Rattle.printing.proofs.Fitting.{texts-none, ends_none, fitting-all, ends_all}
+use Rattle.printing.proofs.Fitting.{fitting-all, ends_all}
 use Rattle.printing.proofs.Shown.{shown-all}
-use Rattle.parsing.specs.Listed.{Ended}
-use Rattle.outcomes.specs.Printed.{Outcome}
 use Rattle.refusals.specs.declared.Stop.{Stop}
 use Rattle.outcomes.specs.declared.Measured.{Measured}
 
@@ -28,15 +26,6 @@ use Rattle.outcomes.specs.declared.Measured.{Measured}
 abbrev Whole : List ℕ → List ℕ → List (List ℕ) → Outcome → Type 0
 Whole s row ts (Ok m) = ts ≡ texts s row
 Whole s row ts (Err t) = Unit {0}
-
--- what a call leaves, by the texts that it comes to; none leave what was there
-pub staged_by : (s row d e : List ℕ) (ts : List (List ℕ)) {out ends : List ℕ} → ts ≡ staged_texts s row → out ≡ laid_texts ts d → ends ≡ laid_ends ts e
-    → Staged s row d e out ends
-staged_by s row d e ts q b c =
-    record { bytes = b ∙ ap (λ (l : List (List ℕ)). laid_texts l d) q; slots = c ∙ ap (λ (l : List (List ℕ)). laid_ends l e) q }
-
-pub staged_none : (s row d e : List ℕ) → staged_texts s row ≡ [] → Staged s row d e d e
-staged_none s row d e q = staged_by s row d e [] (sym q) (texts-none d) (ends_none e)
 
 module _ (s row : List ℕ) where
   whole-end : (x : Ended) → Whole s row (shown_texts s row (placed s (kinds_of row))) (measured_end s row x)

@@ -3,15 +3,13 @@
 use Rattle.std.specs.Prelude.{ℕ, ◌≤◌, ◌≡◌, Bool, true, false, List, [], length, Err, Ok, Result}
 use Rattle.refusals.specs.Limits.{most_format}
 use Rattle.writing.specs.Choose.{choose}
-use Rattle.parsing.specs.Listed.{Placed, placed, ended}
+use Rattle.parsing.specs.Listed.{Placed, placed, ended, Ended}
 use Rattle.parsing.specs.Check.{largest_of}
 use Rattle.parsing.specs.declared.Checked.{Checked}
 use Rattle.rows.specs.Row.{kinds_of, is_row}
 use Rattle.printing.specs.declared.passes.Walked.{Walked}
-use Rattle.printing.specs.Tallies.{tallied, shown_texts}
-use Rattle.parsing.specs.Listed.{Ended}
+use Rattle.printing.specs.Tallies.{tallied, shown_texts, Tally}
 use Rattle.refusals.specs.declared.Stop.{Stop}
-use Rattle.printing.specs.Tallies.{Tally}
 
 -- What checking answers after a pass that only read.
 abbrev pub checked_of : Ended → ℕ → ℕ → Result Checked Stop

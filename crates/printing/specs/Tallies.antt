@@ -3,17 +3,14 @@
 use Rattle.std.specs.Prelude.{ℕ, ◌+◌, ◌-◌, ◌*◌, ◌%◌, ◌^◌, ◌≤◌, min, List, [], ◌∷◌, ◌++◌, map, leb, length, take, set, Err, Ok, Result}
 use Rattle.writing.specs.Choose.{choose}
 use Rattle.writing.specs.Laid.{laid}
-use Rattle.parsing.specs.Listed.{Placed}
+use Rattle.parsing.specs.Listed.{Placed, Ended}
 use Rattle.parsing.specs.declared.Piece.{Piece}
 use Rattle.elements.specs.Texts as T
-use Rattle.elements.specs.Sizes.{size_of}
+use Rattle.elements.specs.Sizes.{size_of, Size}
 use Rattle.elements.specs.PieceTexts.{shown_piece}
-use Rattle.outcomes.specs.Printed.{ends_from}
-use Rattle.parsing.specs.Listed.{Ended}
-use Rattle.outcomes.specs.Printed.{Outcome}
+use Rattle.outcomes.specs.Printed.{ends_from, Outcome}
 use Rattle.refusals.specs.Numbers.{stop}
 use Rattle.refusals.specs.declared.Stop.{Stop}
-use Rattle.elements.specs.Sizes.{Size}
 
 -- A pass, piece by piece: the length so far, or the first piece that is not printed.
 abbrev pub Tally : Type 0

@@ -2,6 +2,7 @@
 // Ported from format_string.rs of datafusion-spark 55.2.0 (Apache-2.0; see NOTICE): the loops of Formatter::parse and Formatter::format. The original
 // pushes the text of each element to a string; here one pass over the pieces finds every refusal and the text's length, and writes as far as it has
 // room; what is lent to a caller is written only once no refusal is left.
+// Format, row, text and ends are handed on one by one, as C lends them: a struct of them would be made at one call and taken apart at the next.
 #![tactic(auto)]
 
 pub mod passes;
@@ -46,6 +47,7 @@ fn check_format(fmt: &[u8]) -> Result<(), Stop>
 }
 
 // A format checked against kinds. No byte of either is read more often than a bounded number of times.
+#[tactic(auto, using(crate::proofs::Formats::checks, crate::proofs::Outcomes::walk_checked))]
 pub fn check(fmt: &[u8], kinds: &[u8]) -> Result<Checked, Stop>
     ensures { result ≡ checked fmt.now kinds.now }
 {
@@ -70,6 +72,7 @@ fn outcome_of(w: Walked) -> Outcome
 
 // The outcome of measuring. The texts are written up to the first piece that has no room, is refused or is not printed, and each one's end that has a
 // slot, in 32 bits, whether the text has room or not.
+#[tactic(auto, using(crate::proofs::Formats::stages))]
 pub fn stage(fmt: &[u8], row: &[u8], out: &mut [u8], ends: &mut [u32]) -> Outcome
     ensures value { result ≡ measured fmt.now row.now }
     ensures staged { Staged fmt.now row.now out.old ends.old out.new ends.new }
@@ -102,6 +105,7 @@ pub fn fit(found: Outcome, room: u64, slots: u64) -> Outcome
 }
 
 // Prints a row: every refusal first, and nothing is written before the last of them is excluded.
+#[tactic(auto, unfolding(outcomes::specs::Printed::printed))]
 pub fn print(fmt: &[u8], row: &[u8], out: &mut [u8], ends: &mut [u32]) -> Outcome
     ensures value { result ≡ printed fmt.now row.now (length out.old) (length ends.old) }
     ensures out_after { out.new ≡ written result out.old (printed_text fmt.now row.now) }

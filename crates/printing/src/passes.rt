@@ -17,7 +17,8 @@ pub struct Walked {
     pub largest: usize,
 }
 
-// A pass over the pieces. Where it prints, text and ends are written on the way as far as they have room.
+// A pass over the pieces. Where it prints, text and ends are written on the way as far as they have room. A flag and no closure:
+// the pass is compiled once for both (docs/DECISIONS.md, 34), and a closure that writes text and ends would have to be told of in each of its promises.
 pub(crate) fn walk(
     fmt: &[u8],
     row: &[u8],

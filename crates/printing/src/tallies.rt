@@ -25,6 +25,7 @@ fn place_behind(tally: Tally, room: usize) -> usize
 }
 
 // Writes a piece behind the pieces so far, into the output's part from there on, where there is room for it. Answers its size.
+#[tactic(auto, using(crate::proofs::Behind::put_behind))]
 pub(crate) fn put_behind(fmt: &[u8], row: &[u8], piece: Piece, tally: Tally, out: &mut [u8]) -> Size
     requires { Ready fmt.now row.now piece }
     ensures value { (result ≡ size_of (shown_piece fmt.now row.now piece)) × SizeBelow result }

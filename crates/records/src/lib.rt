@@ -30,8 +30,8 @@ pub struct Tally {
     pub failed: usize,
 }
 
-// A list and a place in it stay two parameters here and below: each call is at another place, and a struct of both would be made anew for each.
-// The end of the part at a place.
+// The end of the part at a place. A list and a place in it stay two parameters here and below: each call is at another place, and a struct of both would
+// be made anew for each.
 #[tactic(auto, unfolding(crate::specs::Records::part_end))]
 fn part_end(list: &[u8], at: usize) -> Option<usize>
     ensures { (result ≡ part_end list.now at) × (EndLies list.now at result) }
@@ -47,7 +47,7 @@ fn part_end(list: &[u8], at: usize) -> Option<usize>
     Some(at + 2 + n)
 }
 
-// What is stated at a place, and the place behind it: here and below.
+// What is stated at a place, and the place behind it: here and below. What they make of the bytes differs, not how many these are alone.
 #[tactic(auto, unfolding(crate::specs::Records::accepts_at))]
 fn accepts_at(list: &[u8], at: usize) -> Option<(Stated, usize)>
     ensures { (result ≡ accepts_at list.now at) × (ReadLies list.now at result) }
@@ -102,7 +102,7 @@ fn prints_at(list: &[u8], at: usize) -> Option<(Stated, usize)>
     ends_at(list, at + 2, end)
 }
 
-// What is stated at a place, behind a tag.
+// What is stated at a place, behind a tag, which may be any byte.
 #[tactic(auto, unfolding(crate::specs::Records::stated_at))]
 fn stated_at(list: &[u8], tag: u8, at: usize) -> Option<(Stated, usize)>
     ensures { (result ≡ stated_at list.now tag at) × (ReadLies list.now at result) }

@@ -4,7 +4,7 @@ ghost use Rattle.records.specs.Comparing.{same_list, fours, states_accepted, sta
 ghost use Rattle.records.specs.Stated.{TextLies};
 
 // What a record says that a call answers: checking accepts, with pieces and largest argument index; printing accepts, with the text between two places
-// and behind it so many ends; or a refusal.
+// and behind it so many ends; or a refusal, by a number and not by its name, since a list may state one that is none.
 #[derive(Clone, Copy, PartialEq, Eq)]
 pub enum Stated {
     Accepts {
@@ -36,7 +36,7 @@ pub fn is_refused(stated: Stated, number: u8, place: usize) -> bool
     stated == Stated::Refuses { number, place }
 }
 
-// Whether ends are as many numbers of four bytes that stand in a list from a place on.
+// Whether ends are as many numbers of four bytes that stand in a list from a place on: numbers beside bytes, which no equality of the library compares.
 #[tactic(auto, using(crate::proofs::Comparing::fours_next, crate::proofs::Comparing::fours_not, crate::proofs::Comparing::fours_none))]
 fn is_same_ends(ends: &[u32], list: &[u8], at: usize) -> bool
     requires { at + 4 * length ends.now ≤ length list.now }

@@ -1,4 +1,4 @@
-// 01's table, "What stops a call": each refusal with the table's words, in its order, those that later requests add, and the number of each; and the
+// 01's table, "What stops a call": each refusal with the table's words, in its order, with its number, and those that later requests add; and the
 // limits that they name.
 #![tactic(auto)]
 
@@ -9,47 +9,47 @@ ghost use Rattle.refusals.specs.Numbers.{refusal_number, stop};
 #[derive(Clone, Copy, Debug, PartialEq, Eq)]
 pub enum Refusal {
     // format over 4,096 bytes
-    LongFormat,
+    LongFormat = 1,
     // format not UTF-8
-    MalformedFormat,
+    MalformedFormat = 2,
     // over 64 kinds, or a kind not 1 to 8 (checking)
-    BadKinds,
+    BadKinds = 3,
     // row breaks its layout
-    BrokenRow,
+    BrokenRow = 14,
     // `%<` before any element
-    NoElementBefore,
+    NoElementBefore = 4,
     // `%$`
-    NoIndex,
+    NoIndex = 5,
     // number above 2,147,483,647
-    LargeNumber,
+    LargeNumber = 6,
     // argument index above the count of kinds
-    NoSuchArgument,
+    NoSuchArgument = 7,
     // `0` after `-`
-    ZeroAfterMinus,
+    ZeroAfterMinus = 8,
     // both `+` and space
-    PlusAndSpace,
+    PlusAndSpace = 9,
     // no such letter, or end
-    NoLetter,
+    NoLetter = 10,
     // no such time letter, or end
-    NoTimeLetter,
+    NoTimeLetter = 11,
     // letter does not fit the kind
-    UnfitLetter,
+    UnfitLetter = 12,
     // a 513th piece begins
-    ManyPieces,
+    ManyPieces = 13,
     // letter not printed for this kind
-    NotPrinted,
+    NotPrinted = 15,
     // %c of no Unicode scalar value
-    NoScalar,
+    NoScalar = 16,
     // text longer than output or than 4,294,967,295, or more pieces than ends (printing only)
-    NoRoom,
+    NoRoom = 17,
     // 02, E1: a negative timestamp that is not a whole second, under t or T
-    NoWholeSecond,
+    NoWholeSecond = 18,
     // 02, E4: a join of a gate present
-    GatePresent,
+    GatePresent = 19,
     // 02, E4: a leave of a gate absent
-    GateAbsent,
+    GateAbsent = 20,
     // 02, E4: a join when 128 are present
-    ListFull,
+    ListFull = 21,
 }
 
 impl Refusal {
@@ -57,29 +57,7 @@ impl Refusal {
     pub fn number(self) -> u8
         ensures { result ≡ refusal_number self }
     {
-        match self {
-            Refusal::LongFormat => 1,
-            Refusal::MalformedFormat => 2,
-            Refusal::BadKinds => 3,
-            Refusal::NoElementBefore => 4,
-            Refusal::NoIndex => 5,
-            Refusal::LargeNumber => 6,
-            Refusal::NoSuchArgument => 7,
-            Refusal::ZeroAfterMinus => 8,
-            Refusal::PlusAndSpace => 9,
-            Refusal::NoLetter => 10,
-            Refusal::NoTimeLetter => 11,
-            Refusal::UnfitLetter => 12,
-            Refusal::ManyPieces => 13,
-            Refusal::BrokenRow => 14,
-            Refusal::NotPrinted => 15,
-            Refusal::NoScalar => 16,
-            Refusal::NoRoom => 17,
-            Refusal::NoWholeSecond => 18,
-            Refusal::GatePresent => 19,
-            Refusal::GateAbsent => 20,
-            Refusal::ListFull => 21,
-        }
+        self as u8
     }
 
     // It, at a place.

@@ -1,5 +1,7 @@
 -- What a row that keeps its layout has. Assumes nothing.
-use Rattle.std.proofs.Common.{◌≡◌, ℕ, zero, suc, ◌+◌, ◌-◌, ◌*◌, ◌^◌, ◌<◌, ◌≤◌, Bool, true, false, eqb, leb, List, [], ◌∷◌, length, get_or, take, drop, sym, refl, ap, ◌∙◌, subst, add-zero, pow-suc, arith, length-drop, length-take-le, get_or-drop, get_or-take, eqb-true, leb-true, Option, Some, None}
+use Rattle.std.proofs.Common.{◌≡◌, ℕ, zero, suc, ◌+◌, ◌-◌, ◌*◌, ◌^◌, ◌<◌, ◌≤◌, Bool, true, false, eqb, leb, List, [], ◌∷◌, length, get_or, take, drop, sym}
+use Rattle.std.proofs.Common.{refl, ap, ◌∙◌, subst, add-zero, pow-suc, arith, length-drop, length-take-le, get_or-drop, get_or-take, eqb-true, leb-true, Option}
+use Rattle.std.proofs.Common.{Some, None}
 use native.Mathlib.Nat.{one-le-pow}
 use Rattle.refusals.specs.Limits.{most_values, most_text}
 use Rattle.words.specs.LittleEndian.{little_endian, word_at}

@@ -1,5 +1,6 @@
 -- One entry of a row, as 01 has it: a kind, whether it is null, and a value, over the text of the row.
-use Rattle.std.specs.Prelude.{ℕ, ◌+◌, ◌-◌, ◌/◌, ◌%◌, ◌^◌, Bool, true, false, ◌&&◌, ◌||◌, ltb, List, length, take, drop, ℤ, ◌==◌, nat_le, nat_lt, Some, None, Option}
+use Rattle.std.specs.Prelude.{ℕ, ◌+◌, ◌-◌, ◌/◌, ◌%◌, ◌^◌, Bool, true, false, ◌&&◌, ◌||◌, ltb, List, length, take, drop, ℤ, ◌==◌, nat_le, nat_lt, Some, None}
+use Rattle.std.specs.Prelude.{Option}
 use Rattle.writing.specs.Choose.{choose}
 use Rattle.numerals.specs.Integers.{integer_of}
 use Rattle.utf8.specs.Utf8.{well_formed}

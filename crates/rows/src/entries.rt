@@ -13,7 +13,7 @@ pub struct Entry {
     pub value: u64,
 }
 
-// The entry of a kind byte and a value.
+// The entry of a kind byte and a value: of two things, so no From.
 pub(crate) fn entry_of(byte: u8, value: u64) -> Entry
     ensures { result ≡ entry_of byte value }
 {

@@ -64,6 +64,7 @@ pub fn read_row(row: &[u8]) -> Option<usize>
 }
 
 // The entry of an argument.
+#[tactic(auto, using(crate::proofs::Rows::row_shape))]
 pub fn entry(row: &[u8], argument: usize) -> Entry
     requires { Argument row.now argument }
     ensures { result ≡ entry_at row.now argument }
@@ -72,7 +73,7 @@ pub fn entry(row: &[u8], argument: usize) -> Entry
 }
 
 // The text that an entry of kind 7 names.
-#[tactic(auto, using(crate::proofs::Arguments::text_room))]
+#[tactic(auto, using(crate::proofs::Arguments::text_room, crate::proofs::Arguments::text_part, crate::proofs::Arguments::text_short))]
 pub fn named_text(row: &[u8], e: Entry) -> &[u8]
     requires { Names row.now e }
     ensures { (result.now ≡ named_text row.now e) × (length result.now < 2 ^ 32) }

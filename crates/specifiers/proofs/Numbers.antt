@@ -1,9 +1,8 @@
 -- Laws of a number that a text begins with, read digit by digit. Assumes nothing.
 use Rattle.std.proofs.Common.{inl, inr}
 use Rattle.std.specs.Char.{IsNotAsciiDigit}
-use Rattle.std.specs.Prelude.{None, Err, Ok}
+use Rattle.std.specs.Prelude.{Err, Ok}
 use mathlib.Core.Path.{◌≡◌, refl, sym, ap, ◌∙◌}
-use mathlib.Core.Bool.{Bool, false}
 use mathlib.Core.List.{List, [], ◌∷◌}
 use Prim.Native.Nat.{ℕ, ◌+◌, ◌-◌, ◌*◌, ◌≤◌, ◌<◌, max}
 use Prim.Native.Char.{code}
@@ -15,12 +14,10 @@ use lib.ListN.{length, get_or, drop, length-drop, drop_of_length-le}
 use lib.Seq.{drop-cons}
 use borrow.Author.Tests.{leb-true, leb-false, le-leb, lt-leb}
 use Rattle.refusals.specs.Limits.{largest_number}
-use Rattle.writing.specs.Choose.{choose}
 use Rattle.writing.proofs.Choose.{by_test}
 use Rattle.numerals.specs.Digits.{number_from, number_of}
-use Rattle.specifiers.specs.Params.{is_digit, leading_digits, number_taken, number_at, begins_param, is_param, param_of, param_at}
+use Rattle.specifiers.specs.Params.{is_digit, leading_digits, number_taken, number_at}
 use Rattle.refusals.specs.Numbers.{Parsed}
-use Rattle.refusals.specs.declared.Refusal.{Refusal}
 use Rattle.refusals.specs.declared.Refusal.TheVariants.{LargeNumber}
 
 -- More digits never make a number smaller.
@@ -60,9 +57,6 @@ module _ (s : List ℕ) (at : ℕ) where
   pub number-denotes : Denotes at (leading_digits (drop at s)) (number_at s at)
   unfolding number_at
   number-denotes = taken_denotes at (leading_digits (drop at s))
-
-  pub number_large : {refusal : Refusal} → number_at s at ≡ Err refusal → (refusal ≡ LargeNumber) × (largest_number < number_of 10 (leading_digits (drop at s)))
-  number_large e = rw e at number-denotes
 
   pub number_in : NumberIn (length s) at (number_at s at)
   number_in = within (number_at s at) number-denotes
@@ -106,9 +100,9 @@ module _ (s : List ℕ) (i : ℕ) where
   digit_at h m n = simp (drop-cons s i 0 h, le-leb (code "0") (get_or s i 0) m, le-leb (get_or s i 0) (code "9") n, add-one)
 
   module _ (at v : ℕ) (r : ReadTo s at i v) where
-    pub read-end : leading_digits (drop i s) ≡ [] → v ≤ largest_number → Ok (v, i) ≡ number_at s at
+    pub read_end : leading_digits (drop i s) ≡ [] → v ≤ largest_number → Ok (v, i) ≡ number_at s at
     unfolding number_at number_taken number_from
-    read-end e h =
+    read_end e h =
         let n : v ≡ number_of 10 (leading_digits (drop at s)) = sym (ap (number_from 10 v) e) ∙ r.0 in
         let k : i ≡ at + length (leading_digits (drop at s)) = omega (arith, ap length e) in
         simp (le-leb (number_of 10 (leading_digits (drop at s))) largest_number (omega arith)) (cc)
@@ -127,17 +121,3 @@ module _ (s : List ℕ) (i : ℕ) where
         let l = number_grows (v * 10 + (get_or s i 0 - code "0")) (leading_digits (drop (i + 1) s)) in
         let e = (read_digit h m n).0 in
         simp (lt-leb (number_of 10 (leading_digits (drop at s))) largest_number (omega arith))
-
--- A parameter at a place: digits that may begin one, or none.
-module _ (zero : Bool) (s : List ℕ) (at : ℕ) where
-  param_by : (t : Bool) → is_param zero (drop at s) ≡ t
-      → choose t (λ _. param_of (number_at s at)) (λ _. Ok (None, at)) ≡ param_at zero s at
-  unfolding param_at
-  param_by t e = rw e
-
-  pub param_at_lem : (t : Bool) → at < length s → t ≡ begins_param zero (get_or s at 0)
-      → choose t (λ _. param_of (number_at s at)) (λ _. Ok (None, at)) ≡ param_at zero s at
-  param_at_lem t h e = param_by t (ap (is_param zero) (drop-cons s at 0 h) ∙ sym e)
-
-  pub param_past : length s ≤ at → Ok (None, at) ≡ param_at zero s at
-  param_past h = param_by false (ap (is_param zero) (drop_of_length-le s h))

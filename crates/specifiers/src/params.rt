@@ -16,41 +16,43 @@ fn begins_param(b: u8, zero: bool) -> bool
 pub fn take_number(s: &[u8], at: usize) -> Parsed<u32>
     ensures { result ≡ number_at s.now at }
 {
-    let mut i = at;
     let mut value: u32 = 0;
-    while i < s.len() && s[i].is_ascii_digit() {
+    for i in at..s.len() {
+        if !s[i].is_ascii_digit() {
+            return Ok((value, i));
+        }
         let digit = u32::from(s[i] - b'0');
         if (refusals::LARGEST_NUMBER - digit) / 10 < value {
             return Err(Refusal::LargeNumber);
         }
         value = value * 10 + digit;
-        i += 1;
     }
-    Ok((value, i))
+    Ok((value, at.max(s.len())))
 }
 
 // The width or precision that stands in s from the place at on, None where it is absent; a first digit 0 counts only where zero is set. Nothing is read past
 // its digits.
-#[tactic(auto, using(crate::proofs::Numbers::param_at_lem, crate::proofs::Numbers::param_past), unfolding(crate::specs::Params::param_at))]
+#[tactic(auto, unfolding(crate::specs::Params::param_at))]
 pub(crate) fn take_numeric_param(s: &[u8], at: usize, zero: bool) -> Parsed<Option<u32>>
     ensures { result ≡ param_at zero s.now at }
 {
-    if at < s.len() && begins_param(s[at], zero) {
+    if s.get(at).is_some_and(|&b| begins_param(b, zero)) {
         let (value, next) = take_number(s, at)?;
         return Ok((Some(value), next));
     }
     Ok((None, at))
 }
 
-// The place behind the digits that stand in s from the place at on.
+// The place behind the digits that stand in s from the place at on. A chain of skip, take_while and count costs a third more for `%1$d`.
 pub fn digits_end(s: &[u8], at: usize) -> usize
     ensures { result ≡ at + length (leading_digits (drop at s.now)) }
 {
-    let mut end = at;
-    while end < s.len() && s[end].is_ascii_digit() {
-        end += 1;
+    for i in at..s.len() {
+        if !s[i].is_ascii_digit() {
+            return i;
+        }
     }
-    end
+    at.max(s.len())
 }
 
 pub fn width_of(width: Option<u32>) -> u32

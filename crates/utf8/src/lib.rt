@@ -65,6 +65,7 @@ fn lead_of_four(b: u8) -> Option<Follow>
 }
 
 // Whether s is well-formed UTF-8, byte by byte.
+#[tactic(auto, using(crate::proofs::Utf8::read_none, crate::proofs::Utf8::at_end, crate::proofs::Utf8::at_no_lead))]
 fn follows_table(s: &[u8]) -> bool
     ensures { result ≡ well_formed s.now }
 {

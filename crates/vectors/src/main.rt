@@ -16,7 +16,7 @@ use refusals::Stop;
 use std::rt::Files;
 use std::{fs, io};
 
-// Whether a record states what checking answered.
+// Whether a record states what checking answered. It and is_left, which says so of printing, differ in all but what a refusal states.
 fn is_answered(stated: Stated, answer: Result<Checked, Stop>) -> bool
     ensures { result ≡ states_checked stated answer }
 {
@@ -56,6 +56,7 @@ fn is_left(list: &[u8], stated: Stated, answer: Outcome, out: &[u8], ends: &[u32
 }
 
 // Whether a record of printing states what its row, printed under its format, gives.
+#[tactic(auto, using(crate::proofs::Answers::in_room, crate::proofs::Answers::left_right), unfolding(crate::specs::Right::prints_right))]
 fn prints_right(list: &[u8], rec: Record) -> bool
     requires { Lies (length list.now) rec }
     ensures { result ≡ prints_right list.now rec }
@@ -100,7 +101,8 @@ fn run_list(list: &[u8]) -> Tally
     }
 }
 
-// Names the records of a list that differ, up to the first that breaks the layout: as many as are to be named.
+// Names the records of a list that differ, up to the first that breaks the layout: as many as are to be named. A loop of its own beside run_list: it stops
+// early and writes, of which no contract speaks, and run_list is proved to count.
 fn report_list(rt: &impl Print, name: &str, list: &[u8], named: usize) -> io::Result<()> {
     let mut t = Tally::default();
     while let Some(rec) = records::record_at(list, t.at) {

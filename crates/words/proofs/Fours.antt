@@ -8,10 +8,10 @@ use lib.ListN.{length, get_or, take}
 use lib.Seq.{take-suc}
 use Rattle.words.specs.LittleEndian.{bytes_of, all_bytes}
 
-pub bytes-length : (ns : List ℕ) → length (all_bytes ns) ≡ 4 * length ns
+pub bytes_length : (ns : List ℕ) → length (all_bytes ns) ≡ 4 * length ns
 unfolding all_bytes
-bytes-length [] = refl
-bytes-length (n ∷ ns) = omega (arith, bytes-length ns)
+bytes_length [] = refl
+bytes_length (n ∷ ns) = omega (arith, bytes_length ns)
 
 bytes-append : (ns ms : List ℕ) → all_bytes (ns ++ ms) ≡ all_bytes ns ++ all_bytes ms
 unfolding all_bytes

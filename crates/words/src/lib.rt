@@ -16,6 +16,7 @@ pub fn word_at<const N: usize>(s: &[u8], at: usize) -> u64
 }
 
 // A number as four bytes.
+#[tactic(auto, unfolding(writing::specs::Laid::laid))]
 fn write_four(out: &mut [u8], n: u32)
     requires { 4 ≤ length out.old }
     ensures { out.new ≡ laid out.old (bytes_of 4 n) }
@@ -24,6 +25,7 @@ fn write_four(out: &mut [u8], n: u32)
 }
 
 // Numbers, four bytes each.
+#[tactic(auto, using(writing::proofs::Laid::laid_none), unfolding(crate::specs::LittleEndian::all_bytes))]
 pub fn write_fours(out: &mut [u8], numbers: &[u32])
     requires { 4 * length numbers.now ≤ length out.old }
     ensures { out.new ≡ laid out.old (all_bytes numbers.now) }

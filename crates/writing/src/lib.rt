@@ -1,4 +1,5 @@
-// Writers of bytes into the start of a lent slice. What lies past the text keeps its content.
+// Writers of bytes into the start of a lent slice. What lies past the text keeps its content. The next writer takes the rest, `&mut out[n..]`, which
+// is 01's form; what one leaves is a word, `Wrote` or `Put`, and of a struct of a slice and a place each contract would say the place besides.
 #![tactic(auto, using(crate::proofs::Laid::rooms), unfolding(crate::specs::Laid::laid))]
 
 ghost use Rattle.std.specs.Prelude.{◌≡◌, [], ◌∷◌, ◌≤◌, length, replicate};
@@ -27,7 +28,7 @@ pub fn write_fill(out: &mut [u8], n: usize, b: u8) -> usize
     n
 }
 
-// Copies the text where there is room for it. Answers its length.
+// Copies the text where there is room for it. Answers its length. Not with fields' put_cased by a writer as a closure: its contract is longer than both.
 pub fn put_text(out: &mut [u8], text: &[u8]) -> usize
     ensures { Put out.old text.now result out.new }
 {
@@ -41,8 +42,5 @@ pub fn put_text(out: &mut [u8], text: &[u8]) -> usize
 pub fn put_byte(out: &mut [u8], b: u8) -> usize
     ensures { Put out.old (b ∷ []) result out.new }
 {
-    if let Some(first) = out.first_mut() {
-        *first = b;
-    }
-    1
+    put_text(out, &[b])
 }

@@ -9,8 +9,8 @@ use Rattle.binary64.proofs.Value.{not_nan}
 use Rattle.binary64.proofs.Scaled.{factor, subnormal_value, product_value}
 use Rattle.binary64.proofs.scale_up.Goals as goal
 
-pub float_from_bits-value : goal.float_from_bits-value
-float_from_bits-value c =
+pub float_from_bits-result : goal.float_from_bits-result
+float_from_bits-result c =
     let b = c.args.bits in
     rw (nan_bits_is binary64 b) (not_nan (of_bits binary64 b) false b (2 ^ 1074) (subnormal_value b c.requires.1))
 

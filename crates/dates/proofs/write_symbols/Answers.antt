@@ -1,16 +1,9 @@
 -- `dates::write_symbols` meets its contract. Assumes nothing.
-use Rattle.std.proofs.Common.{◌+◌, ◌<◌, length, refl, sym, arith, length-take, length-drop}
-use Rattle.writing.proofs.Laid.{laid_none}
+use Rattle.std.proofs.Common.{◌+◌, ◌<◌, length, arith, length-take, length-drop}
 use Rattle.writing.proofs.Chained.{wrote_two}
 use Rattle.numerals.specs.Integers.{int_of}
-use Rattle.dates.specs.Components.{symbols_text}
-use Rattle.dates.specs.Steps.{room_for}
-use Rattle.dates.proofs.Symbols.{text-next, room_next, room_within}
+use Rattle.dates.proofs.Symbols.{text_next, room_next, room_within}
 use Rattle.dates.proofs.write_symbols.Goals as goal
-
-pub loop-letter-init : goal.loop-letter-init
-unfolding symbols_text room_for
-loop-letter-init c = (omega arith, (refl, sym (laid_none c.args.out.now)))
 
 -- the part of this turn has room behind what is written
 pub write_part-at-requires : goal.write_part-at-requires
@@ -35,5 +28,5 @@ loop-letter-preserved c =
     let wrote = rw part.0 at c.write_part-at.ensures.0 in
     let two = wrote_two _ _ _ _ _ _ _ l.invariant.1 wrote in (
       omega (arith, part.1.1, room_next s i inside, c.write_part-at.ensures.1, l.invariant.0),
-      rw (← text-next s i inside (int_of 64 c.args.timestamp) c.args.m) at two,
+      rw (← text_next s i inside (int_of 64 c.args.timestamp) c.args.m) at two,
     )

@@ -6,21 +6,6 @@ use borrow.Table.Steps.{cases}
 use Rattle.numerals.specs.Digits.{letter_of}
 use Rattle.numerals.proofs.digit_letter.Goals as goal
 
-pub overflow_mul-gap : goal.overflow_mul-gap
-overflow_mul-gap c = cases c.args.upper (λ e. simp e (omega arith)) (λ e. simp e (omega arith))
-
-pub overflow_sub-gap : goal.overflow_sub-gap
-overflow_sub-gap c = cases c.args.upper (λ e. simp e (omega arith)) (λ e. simp e (omega arith))
-
-pub overflow_mul-result : goal.overflow_mul-result
-overflow_mul-result c = cases c.args.upper (λ e. simp e (omega (arith, c.requires))) (λ e. simp e (omega (arith, c.requires)))
-
-pub overflow_add-result : goal.overflow_add-result
-overflow_add-result c = cases c.args.upper (λ e. simp e (omega (arith, c.requires))) (λ e. simp e (omega (arith, c.requires)))
-
-pub overflow_add-result-2 : goal.overflow_add-result-2
-overflow_add-result-2 c = cases c.args.upper (λ e. simp e (omega (arith, c.requires))) (λ e. simp e (omega (arith, c.requires)))
-
 pub returns : goal.returns
 unfolding letter_of
 returns c =

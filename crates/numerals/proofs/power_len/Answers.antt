@@ -1,6 +1,5 @@
 -- `numerals::power_len` meets its contract: the highest set bit says how many digits there are. Assumes nothing.
 use Rattle.std.proofs.Common.{◌^◌, sym, pos_of_ne-zero, arith, pow_pos}
-use lib.Count.{leading_le}
 use Rattle.numerals.proofs.Digits.{places-small, power_length}
 use Rattle.numerals.proofs.power_len.Goals as goal
 
@@ -8,9 +7,6 @@ pub returns-then-x-eq0 : goal.returns-then-x-eq0
 returns-then-x-eq0 c =
     let a = c.args in
     sym (places-small (2 ^ a.shift) a.x (omega (arith, pow_pos a.shift)))
-
-pub overflow_sub-bits : goal.overflow_sub-bits
-overflow_sub-bits c = leading_le 64 c.args.x
 
 pub returns : goal.returns
 returns c =

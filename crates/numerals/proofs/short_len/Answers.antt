@@ -1,33 +1,16 @@
 -- `numerals::short_len` meets its contract. Assumes nothing.
-use Rattle.std.proofs.Common.{◌/◌, arith}
-use Rattle.numerals.proofs.Digits.{places-small, places-more}
+use Rattle.std.proofs.Common.{sym, arith, lit≤}
+use Rattle.numerals.proofs.Digits.{places-small, places_is}
 use Rattle.numerals.proofs.short_len.Goals as goal
 
-pub returns-then-x-lt10 : goal.returns-then-x-lt10
-returns-then-x-lt10 c = let x = c.args.x in omega (arith, places-small 10 x (omega arith))
+pub returns-in-0-to-9 : goal.returns-in-0-to-9
+returns-in-0-to-9 c = sym (places-small 10 _ (omega arith))
 
-pub returns-then-x-lt100 : goal.returns-then-x-lt100
-returns-then-x-lt100 c =
-    let x = c.args.x in
-    omega (arith, places-more 10 x (omega arith) (omega arith), places-small 10 (x / 10) (omega arith))
+pub returns-in-10-to-99 : goal.returns-in-10-to-99
+returns-in-10-to-99 c = sym (places_is 10 1 _ (lit≤ tt) (omega arith) (omega arith))
 
-pub returns-then-x-lt1000 : goal.returns-then-x-lt1000
-returns-then-x-lt1000 c =
-    let x = c.args.x in
-    omega (
-      arith,
-      places-more 10 x (omega arith) (omega arith),
-      places-more 10 (x / 10) (omega arith) (omega arith),
-      places-small 10 (x / 10 / 10) (omega arith),
-    )
+pub returns-in-100-to-999 : goal.returns-in-100-to-999
+returns-in-100-to-999 c = sym (places_is 10 2 _ (lit≤ tt) (omega arith) (omega arith))
 
-pub returns : goal.returns
-returns c =
-    let x = c.args.x in
-    omega (
-      arith,
-      places-more 10 x (omega arith) (omega arith),
-      places-more 10 (x / 10) (omega arith) (omega arith),
-      places-more 10 (x / 10 / 10) (omega arith) (omega arith),
-      places-small 10 (x / 10 / 10 / 10) (omega arith),
-    )
+pub returns-in_default : goal.returns-in_default
+returns-in_default c = sym (places_is 10 3 _ (lit≤ tt) (omega arith) (omega arith))

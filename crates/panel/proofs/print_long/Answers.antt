@@ -1,9 +1,7 @@
 -- `panel::print_long` meets its contract. Assumes nothing.
 use Prim.Native.Nat.{ℕ}
-use mathlib.Core.Path.{◌≡◌, sym, ap, ◌∙◌}
+use mathlib.Core.Path.{ap, ◌∙◌}
 use mathlib.Core.List.{List}
-use lib.ListN.{length, length-take}
-use lib.Seq.{length-take-le}
 use native.Mathlib.Omega.{arith}
 use Rattle.writing.specs.Laid.{laid}
 use Rattle.parsing.proofs.Cover.{few}
@@ -11,23 +9,7 @@ use Rattle.rows.specs.Row.{kinds_of}
 use Rattle.outcomes.proofs.Accepted.{fitted}
 use Rattle.words.specs.LittleEndian.{all_bytes}
 use Rattle.panel.proofs.Slots.{text_of, ends_of}
-use borrow.Author.Rules.{rules}
 use Rattle.panel.proofs.print_long.Goals as goal
-
-pub slice_bounds-slots-end : goal.slice_bounds-slots-end
-slice_bounds-slots-end c =
-    let k = fitted c.args.fmt.now c.args.row.now _ _ _ c.requires in
-    let e : length c.stage.new.ends ≡ 512 = search rules in
-    omega (arith, e, k.accepts.pieces, (few c.args.fmt.now (kinds_of c.args.row.now)).0)
-
-pub slice_bounds-write_fours-end : goal.slice_bounds-write_fours-end
-slice_bounds-write_fours-end c =
-    let k = fitted c.args.fmt.now c.args.row.now _ _ _ c.requires in
-    let e : length c.stage.new.ends ≡ 512 = search rules in
-    sym (length-take-le _ _ (omega (arith, e, k.accepts.pieces, (few c.args.fmt.now (kinds_of c.args.row.now)).0)))
-
-pub write_fours-requires : goal.write_fours-requires
-write_fours-requires c = simp length-take (omega (arith, (fitted c.args.fmt.now c.args.row.now _ _ _ c.requires).slots_enough))
 
 pub returns : goal.returns
 returns c =

@@ -1,19 +1,11 @@
 -- `printing::print` meets its contract. Assumes nothing.
 use Rattle.std.proofs.Common.{length, sym, ap, subst, ◌∙◌, arith}
-use Rattle.std.proofs.lemmas.Result.{err_from_is_err_and}
 use Rattle.outcomes.specs.Printed.{Outcome, texts, printed_text, ends_from, if_room, printed, written}
 use Rattle.outcomes.specs.Demand.{Demanded}
 use Rattle.outcomes.proofs.Accepted.{fitted}
 use Rattle.outcomes.proofs.Demand.{demand}
 use Rattle.printing.proofs.Staged.{staged_text, staged_ends}
 use Rattle.printing.proofs.print.Goals as goal
-
-pub returns-in_err-fit-clause-value : goal.returns-in_err-fit-clause-value
-unfolding printed
-returns-in_err-fit-clause-value c =
-    let p = err_from_is_err_and c.from_residual.result c.from_residual.ensures.1 in
-    let a = c.args in
-    rw (p.1, p.2) (sym c.in_err-fit.was ∙ c.fit.ensures ∙ ap (if_room (length a.out.now) (length a.ends.now)) c.measure-found.ensures)
 
 pub returns : goal.returns
 unfolding printed

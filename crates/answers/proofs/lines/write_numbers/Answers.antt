@@ -4,7 +4,8 @@ use Rattle.std.proofs.Common.{◌≤◌, length, arith}
 use Rattle.writing.proofs.Chained.{wrote_two, wrote_byte}
 use Rattle.numerals.specs.Digits.{decimal}
 use Rattle.answers.specs.Lines.{line}
-use Rattle.answers.proofs.LineTexts.{at_most_twenty, line_length, numbers-line}
+use Rattle.numerals.proofs.Digits.{at_most_twenty}
+use Rattle.answers.proofs.LineTexts.{line_length, numbers-line}
 use Rattle.answers.proofs.lines.write_numbers.Goals as goal
 
 pub returns : goal.returns
@@ -13,7 +14,7 @@ returns c =
     let short-a : length (decimal a.a) ≤ 20 = at_most_twenty a.a (omega arith) in
     let short-b : length (decimal a.b) ≤ 20 = at_most_twenty a.b (omega arith) in
     let w₁ = c.write_text-i.ensures in
-    let w₂ = c.write_number.ensures in
+    let w₂ = c.write_decimal.ensures.0 in
     let w₃ = c.write_number_line.ensures in
     let two = wrote_two a.out.now a.word.now (decimal a.a) _ _ _ _ w₁ w₂ in
     let three = wrote_byte _ _ _ _ (code " ") two (omega (arith, short-a)) in

@@ -2,13 +2,8 @@
 use Rattle.std.proofs.Common.{◌≡◌, ◌-◌, [], get_or, refl, sym, ◌∙◌, arith}
 use Rattle.std.proofs.lemmas.Grind.{common_steps}
 use Rattle.live.proofs.Leaving.{Left}
-use Rattle.live.proofs.Changing.{is_absent, is_left}
+use Rattle.live.proofs.Changing.{is_left}
 use Rattle.live.proofs.GateList.try_leave.Goals as goal
-
-pub returns-in_default : goal.returns-in_default
-returns-in_default c =
-    let a = c.args in
-    λ s. rw c.at.ensures (is_absent s a.self.now a.gate (omega arith) (sym c.place_of.ensures ∙ c.in_default.is))
 
 pub returns : goal.returns
 returns c =

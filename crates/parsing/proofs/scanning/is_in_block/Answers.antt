@@ -10,22 +10,19 @@ use Rattle.parsing.proofs.scanning.is_in_block.Goals as goal
 use Rattle.parsing.proofs.scanning.is_in_block.Goals.{then-text-at-eq37, else-text-at-eq37}
 
 pub loop-i-init : goal.loop-i-init
-loop-i-init c = (omega arith, sym (le-ltb (text_length (drop c.args.at c.args.text.now)) 0 (omega arith)))
+loop-i-init c = sym (le-ltb (text_length (drop c.args.at c.args.text.now)) 0 (omega arith))
 
 pub loop-i-preserved : goal.loop-i-preserved
 loop-i-preserved c =
     let l = c.loop-i in
-    let a = c.args in (
-      omega arith,
-      elim c.if-text-at-eq37.branch [
-        | then-text-at-eq37 w ↦ w.found-is ∙ sym (block_percent a.text.now a.at l.i (omega arith) w.if-text-at-eq37.true)
-        | else-text-at-eq37 w ↦ w.found-is ∙ l.invariant.1 ∙ block_more a.text.now a.at l.i (omega arith) w.if-text-at-eq37.false
-      ],
-    )
+    let a = c.args in
+    elim c.if-text-at-eq37.branch [
+      | then-text-at-eq37 w ↦ w.found-is ∙ sym (block_percent a.text.now a.at l.i (omega arith) w.if-text-at-eq37.true)
+      | else-text-at-eq37 w ↦ w.found-is ∙ l.invariant ∙ block_more a.text.now a.at l.i (omega arith) w.if-text-at-eq37.false
+    ]
 
 pub returns : goal.returns
 returns c =
-    let l = c.loop-i in
     let a = c.args in
-    let e : l.i ≡ 32 = omega arith in
-    l.invariant.1 ∙ ap (ltb (text_length (drop a.at a.text.now))) e
+    let e : c.loop-i.i ≡ 32 = omega arith in
+    c.loop-i.invariant ∙ ap (ltb (text_length (drop a.at a.text.now))) e

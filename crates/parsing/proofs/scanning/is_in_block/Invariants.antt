@@ -1,5 +1,4 @@
 -- `parsing::scanning::is_in_block` meets its contract. The loop's invariant: found says whether a `%` is among the first i bytes. Assumes nothing.
-use Prim.Native.Nat.{◌-◌, ◌≤◌}
 use mathlib.Core.Path.{◌≡◌}
 use lib.Dec.{ltb}
 use lib.ListN.{drop}
@@ -7,7 +6,4 @@ use Rattle.parsing.specs.Texts.{text_length}
 use Rattle.parsing.proofs.scanning.is_in_block.Given as goal
 
 abbrev pub invariant-loop-i : goal.invariant-loop-i
-invariant-loop-i l = (l.i ≤ 32) × (l.found ≡ ltb (text_length (drop l.at l.text)) l.i)
-
-abbrev pub decreases-loop-i : goal.decreases-loop-i
-decreases-loop-i l = 32 - l.i
+invariant-loop-i l = l.found ≡ ltb (text_length (drop l.at l.text)) l.i

@@ -22,5 +22,4 @@ loop-i-preserved c =
 pub returns : goal.returns
 returns c =
     let l = c.loop-i in
-    let s = c.args.text.now in
-    omega (arith, l.invariant, text_ends s l.i (omega arith))
+    omega (arith, l.invariant, text_ends c.args.text.now l.i (omega arith))

@@ -9,8 +9,7 @@ use Rattle.elements.specs.Sizes.{Size}
 use Rattle.printing.specs.Tallies.{added}
 use Rattle.printing.specs.Passes.{Walkable}
 use Rattle.printing.proofs.Reached.{reached_full, reached_refused, reached_end}
-use Rattle.printing.proofs.Laying.{piece_ready, laying_as, laying_start, laying_read, laying_printed}
-use Rattle.printing.proofs.Laying.{walk_answer, walk_bytes, walk_slots}
+use Rattle.printing.proofs.Laying.{piece_ready, laying_as, laying_start, laying_read, laying_printed, walk_answer, walk_bytes, walk_slots}
 use borrow.Author.Rules.{rules}
 use Rattle.printing.proofs.passes.walk.Goals as goal
 use Rattle.printing.proofs.passes.walk.Goals.{then-prints, else-prints}
@@ -22,7 +21,11 @@ pub returns-then-pieces-ge-MOST_PIECES : goal.returns-then-pieces-ge-MOST_PIECES
 returns-then-pieces-ge-MOST_PIECES c =
     let l = c.loop-c in
     let full = reached_full l.invariant.reached c.loop-c-test.true c.if-pieces-ge-MOST_PIECES.true in
-    record { walk = walk_answer l.invariant full.1 (ap Err c.at.ensures ∙ sym full.0); out_after = walk_bytes l.invariant full.1; ends_after = walk_slots l.invariant full.1 }
+    record {
+      walk = walk_answer l.invariant full.1 (ap Err c.at.ensures ∙ sym full.0);
+      out_after = walk_bytes l.invariant full.1;
+      ends_after = walk_slots l.invariant full.1;
+    }
 
 pub returns-in-Err : goal.returns-in-Err
 returns-in-Err c =
@@ -63,7 +66,8 @@ loop-c-preserved c =
           let add = w.add_size-tally.ensures in
           let counts = add.0 ∙ ap (λ (x : Size). added l.c.at x l.tally) put.value.0 in
           laying_as w.tally-is m w.out-is w.ends-is
-          (laying_printed l.invariant c.loop-c-test.true c.if-pieces-ge-MOST_PIECES.false found w.if-prints.true counts add.1 put.out_after add.2 (search rules) (search rules))
+          (laying_printed l.invariant c.loop-c-test.true c.if-pieces-ge-MOST_PIECES.false found w.if-prints.true counts add.1 put.out_after add.2
+          (search rules) (search rules))
       | else-prints w ↦
           laying_as w.tally-is m w.out-is w.ends-is (laying_read l.invariant c.loop-c-test.true c.if-pieces-ge-MOST_PIECES.false found w.if-prints.false)
     ]
@@ -72,4 +76,8 @@ pub returns : goal.returns
 returns c =
     let l = c.loop-c in
     let past = reached_end l.invariant.reached c.loop-c-test.false in
-    record { walk = walk_answer l.invariant past.1 (sym past.0); out_after = walk_bytes l.invariant past.1; ends_after = walk_slots l.invariant past.1 }
+    record {
+      walk = walk_answer l.invariant past.1 (sym past.0);
+      out_after = walk_bytes l.invariant past.1;
+      ends_after = walk_slots l.invariant past.1;
+    }

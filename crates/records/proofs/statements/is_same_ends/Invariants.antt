@@ -7,4 +7,5 @@ use Rattle.records.proofs.statements.is_same_ends.Given as goal
 
 abbrev pub invariant-loop-i : goal.invariant-loop-i
 invariant-loop-i l =
-    (l.i ≤ length l.ends) × (same_list l.ends (fours l.list l.at (length l.ends)) ≡ same_list (drop l.i l.ends) (fours l.list (l.at + 4 * l.i) (length l.ends - l.i)))
+    (l.i ≤ length l.ends)
+    × (same_list l.ends (fours l.list l.at (length l.ends)) ≡ same_list (drop l.i l.ends) (fours l.list (l.at + 4 * l.i) (length l.ends - l.i)))
