@@ -1,5 +1,5 @@
 -- The letters of a format. 01: "Letter: b B h H s S c C d o x X e E f g G a A, or t or T and one of the 30 letters of `TimeFormat`, with `h` read as `b`."
-use Rattle.std.specs.Prelude.{ℕ, Bool, true, false, List, [], ◌∷◌, eqb, None, Option, Some}
+use Rattle.std.specs.Prelude.{ℕ, List, [], ◌∷◌, eqb, None, Option, Some}
 use Prim.Native.Char.{Char, code}
 use Rattle.writing.specs.Choose.{choose}
 use Rattle.kinds.specs.declared.letters.TimeFormat.{TimeFormat}
@@ -41,12 +41,3 @@ small_of b = lookup code Some None small_letters b
 
 unfoldable pub capital_of : ℕ → Option ConversionType
 capital_of b = lookup code Some None capital_letters b
-
--- The conversion of a letter of either case, and whether it is a capital.
-abbrev pub in_case : Option ConversionType → Option ConversionType → Option (ConversionType × Bool)
-in_case (Some c) capital = Some (c, false)
-in_case None (Some c) = Some (c, true)
-in_case None None = None
-
-abbrev pub letter_of : ℕ → Option (ConversionType × Bool)
-letter_of b = in_case (small_of b) (capital_of b)

@@ -2,7 +2,7 @@
 // Ported from format_string.rs of datafusion-spark 55.2.0 (Apache-2.0; see NOTICE): ConversionType, TimeFormat with its
 // try_from and the letters of take_conversion_specifier.
 ghost use Rattle.std.specs.Prelude.{◌≡◌};
-ghost use Rattle.kinds.specs.Letters.{time_of, letter_of};
+ghost use Rattle.kinds.specs.Letters.{time_of, small_of, capital_of};
 
 use numerals::Radix;
 
@@ -94,22 +94,39 @@ pub fn time_of(b: u8) -> Option<TimeFormat>
     }
 }
 
-// The conversion that a letter names, but for t and T, which a second letter completes, and whether the letter is a capital.
-#[tactic(auto, unfolding(crate::specs::Letters::small_of, crate::specs::Letters::capital_of))]
-pub fn letter_of(b: u8) -> Option<(ConversionType, bool)>
-    ensures { result ≡ letter_of b }
+// The conversion that a small letter names, but for t, which a second letter completes. Beside capital_letter: one function for both, which answers the case
+// too, takes more instructions (specifiers).
+#[tactic(auto, unfolding(crate::specs::Letters::small_of))]
+pub fn small_letter(b: u8) -> Option<ConversionType>
+    ensures { result ≡ small_of b }
 {
-    let conversion = match b {
-        b'b' | b'B' => ConversionType::Boolean,
-        b'h' | b'H' => ConversionType::HexHash,
-        b's' | b'S' => ConversionType::String,
-        b'c' | b'C' => ConversionType::Char,
-        b'd' => ConversionType::Integer(Radix::Decimal),
-        b'o' => ConversionType::Integer(Radix::Octal),
-        b'x' | b'X' => ConversionType::Integer(Radix::Hexadecimal),
-        b'e' | b'f' | b'g' | b'E' | b'G' => ConversionType::DecimalFloat,
-        b'a' | b'A' => ConversionType::HexFloat,
-        _ => return None,
-    };
-    Some((conversion, b.is_ascii_uppercase()))
+    match b {
+        b'b' => Some(ConversionType::Boolean),
+        b'h' => Some(ConversionType::HexHash),
+        b's' => Some(ConversionType::String),
+        b'c' => Some(ConversionType::Char),
+        b'd' => Some(ConversionType::Integer(Radix::Decimal)),
+        b'o' => Some(ConversionType::Integer(Radix::Octal)),
+        b'x' => Some(ConversionType::Integer(Radix::Hexadecimal)),
+        b'e' | b'f' | b'g' => Some(ConversionType::DecimalFloat),
+        b'a' => Some(ConversionType::HexFloat),
+        _ => None,
+    }
+}
+
+// The conversion that a capital names, but for T.
+#[tactic(auto, unfolding(crate::specs::Letters::capital_of))]
+pub fn capital_letter(b: u8) -> Option<ConversionType>
+    ensures { result ≡ capital_of b }
+{
+    match b {
+        b'B' => Some(ConversionType::Boolean),
+        b'H' => Some(ConversionType::HexHash),
+        b'S' => Some(ConversionType::String),
+        b'C' => Some(ConversionType::Char),
+        b'X' => Some(ConversionType::Integer(Radix::Hexadecimal)),
+        b'E' | b'G' => Some(ConversionType::DecimalFloat),
+        b'A' => Some(ConversionType::HexFloat),
+        _ => None,
+    }
 }

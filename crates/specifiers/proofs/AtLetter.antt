@@ -1,5 +1,5 @@
 -- Where a byte from A on stands, no flag, width or precision does. Assumes nothing.
-use Rattle.std.specs.Prelude.{None, Option, Ok}
+use Rattle.std.specs.Prelude.{None, Ok}
 use mathlib.Core.Path.{◌≡◌, refl}
 use mathlib.Core.Bool.{true, false}
 use mathlib.Core.List.{List, [], ◌∷◌}
@@ -14,7 +14,6 @@ use Rattle.writing.proofs.Bytes.{other}
 use Rattle.specifiers.specs.Params.{is_param, param_at}
 use Rattle.specifiers.specs.Flags.{is_flag, leading_flags, flags_of, first_clash, flags_at}
 use Rattle.specifiers.specs.Specifier.{begins_with, precision_at, parts_at}
-use Rattle.specifiers.specs.declared.flags.Flags.{Flags}
 use Rattle.specifiers.specs.Steps.{begins_letter}
 
 no_flag : (b : ℕ) → code "A" ≤ b → is_flag b ≡ false
@@ -47,7 +46,7 @@ no_point (b ∷ l) h =
     let k = leb-true (code "A") b h in
     ne_eqb b (code ".") (λ e. omega arith)
 
-pub no_parts : (s : List ℕ) (at : ℕ) {f : Flags} {w q : Option ℕ} → begins_letter (drop at s) ≡ true
-    → f ≡ flags_of [] → w ≡ None → q ≡ None → Ok ((record { flags = f; width = w; precision = q }), at) ≡ parts_at s at
+pub no_parts : (s : List ℕ) (at : ℕ) → begins_letter (drop at s) ≡ true
+    → parts_at s at ≡ Ok ((record { flags = flags_of []; width = None; precision = None }), at)
 unfolding parts_at flags_at first_clash param_at precision_at
-no_parts s at h f w q = simp (no_flags (drop at s) h, add-zero at, no_width (drop at s) h, no_point (drop at s) h, f, w, q)
+no_parts s at h = simp (no_flags (drop at s) h, add-zero at, no_width (drop at s) h, no_point (drop at s) h)

@@ -3,7 +3,7 @@ use Rattle.std.specs.Prelude.{Option, None, Some, Ok, Result, Err}
 use mathlib.Core.Path.{◌≡◌, refl, ap}
 use mathlib.Core.Bool.{Bool, true, false, ◌||◌, or-true}
 use mathlib.Core.List.{List, [], ◌∷◌, ◌++◌, append_assoc, append-nil}
-use Prim.Native.Nat.{ℕ, ◌+◌, ◌≤◌, ◌<◌, max}
+use Prim.Native.Nat.{ℕ, ◌+◌, ◌≤◌, ◌<◌}
 use native.Mathlib.Omega.{arith}
 use lib.Dec.{eqb}
 use lib.ListN.{length, get_or, drop, length-append}
@@ -30,12 +30,11 @@ pub record FlagsTo (s : List ℕ) (at i : ℕ) (f : Flags) : Type 0 where
   pub before : List ℕ
   pub said : f ≡ flags_of before
   pub place : i ≡ at + length before
-  pub within : i ≤ max at (length s)
   pub rest : flags_taken (first_clash before (leading_flags (drop i s))) (before ++ leading_flags (drop i s)) at ≡ flags_at s at
 
-pub flags_none : (s : List ℕ) (at : ℕ) {f : Flags} → f ≡ flags_of [] → FlagsTo s at at f
+pub flags-none : (s : List ℕ) (at : ℕ) → FlagsTo s at at (flags_of [])
 unfolding flags_at
-flags_none s at e = record { before = []; said = e; place = omega arith; within = omega arith; rest = refl }
+flags-none s at = record { before = []; said = refl; place = omega arith; rest = refl }
 
 -- What holds behind a step at i: one flag more is read, or the flags end there, or their clash is the answer.
 abbrev pub Turned : List ℕ → ℕ → ℕ → Flags → Result (Option Flags) Refusal → Type 0
@@ -43,19 +42,18 @@ Turned s at i f (Ok (Some g)) = FlagsTo s at (i + 1) g
 Turned s at i f (Ok None) = Ok (f, i) ≡ flags_at s at
 Turned s at i f (Err refusal) = Err refusal ≡ flags_at s at
 
-module _ {s : List ℕ} {at i : ℕ} {f : Flags} (to : FlagsTo s at i f) where
+module _ (s : List ℕ) (at i : ℕ) (f : Flags) (to : FlagsTo s at i f) where
   no_more : leading_flags (drop i s) ≡ [] → Ok (f, i) ≡ flags_at s at
   unfolding first_clash
   no_more e = simp (to.said, to.place) (simp (e, append-nil) at to.rest)
 
-  pub flags_end : length s ≤ i → Ok (f, i) ≡ flags_at s at
+  pub flags-end : length s ≤ i → Ok (f, i) ≡ flags_at s at
   unfolding leading_flags
-  flags_end h = no_more (ap leading_flags (no_byte s i h))
+  flags-end h = no_more (ap leading_flags (no_byte s i h))
 
-  pub flags_turn : i < length s → (step : Result (Option Flags) Refusal)
-      → ((before : List ℕ) → f ≡ flags_of before → step ≡ step_of before (get_or s i 0)) → Turned s at i f step
+  pub flags_turn : i < length s → (step : Result (Option Flags) Refusal) → step ≡ step_of to.before (get_or s i 0) → Turned s at i f step
   unfolding leading_flags first_clash
-  flags_turn h step e = rw (e to.before to.said) (go (get_or s i 0) (byte_at s i h) _ _ refl refl)
+  flags_turn h step e = rw e (go (get_or s i 0) (byte_at s i h) _ _ refl refl)
     where
       go : (b : ℕ) → drop i s ≡ b ∷ drop (i + 1) s → (t : Bool) (x : Option Refusal) → is_flag b ≡ t → clash to.before b ≡ x
           → Turned s at i f (choose t (λ _. unless_clash x (flags_of (to.before ++ (b ∷ [])))) (λ _. Ok None))
@@ -65,7 +63,6 @@ module _ {s : List ℕ} {at i : ℕ} {f : Flags} (to : FlagsTo s at i f) where
             before = to.before ++ (b ∷ []);
             said = refl;
             place = rw length-append (omega (arith, to.place));
-            within = omega arith;
             rest = rw append_assoc (simp (d, p, q) at to.rest);
           }
       go b d true (Some refusal) p q = simp (d, p, q) at to.rest

@@ -50,7 +50,7 @@ letter_from (b ∷ bs) at =
     choose (eqb b (code "t")) (λ _. second_letter false bs at)
     (λ _. choose (eqb b (code "T")) (λ _. second_letter true bs at) (λ _. one_letter (small_of b) (capital_of b) at))
 
-abbrev pub time_letter_at : List ℕ → ℕ → Bool → Parsed (ConversionType × Bool)
+unfoldable pub time_letter_at : List ℕ → ℕ → Bool → Parsed (ConversionType × Bool)
 time_letter_at s at upper = second_letter upper (drop (at + 1) s) at
 
 unfoldable pub letter_at : List ℕ → ℕ → Parsed (ConversionType × Bool)

