@@ -1,5 +1,5 @@
-// Lines of text and of numbers, written in a lent slice, and not by a format macro, whose contract does not say which bytes it writes. Knows nothing of
-// formats, rows or printing.
+// Lines of text and of numbers, written in a lent slice, and not by a format macro: the library promises its bytes in a String, which is on the heap.
+// Knows nothing of formats, rows or printing.
 ghost use Rattle.std.specs.Prelude.{◌+◌, ◌*◌, ◌≤◌, length};
 ghost use Rattle.writing.specs.Writers.{Wrote};
 ghost use Rattle.numerals.specs.Digits.{decimal};

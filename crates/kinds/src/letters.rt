@@ -95,7 +95,7 @@ pub fn time_of(b: u8) -> Option<TimeFormat>
 }
 
 // The conversion that a small letter names, but for t, which a second letter completes. Beside capital_letter: one function for both, which answers the case
-// too, takes more instructions (specifiers).
+// too, was one of the forms that took more instructions (specifiers).
 #[tactic(auto, unfolding(crate::specs::Letters::small_of))]
 pub fn small_letter(b: u8) -> Option<ConversionType>
     ensures { result ≡ small_of b }

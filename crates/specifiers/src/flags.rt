@@ -56,7 +56,7 @@ pub(crate) fn no_flags() -> Flags
     }
 }
 
-// The flags from the place at on. Not by a range: it takes 1 to 3 % more of a row with flags.
+// The flags from the place at on. Not by a range: a row with flags takes 0.8 to 3.1 % more instructions.
 pub(crate) fn take_flags(fmt: &[u8], at: usize) -> Parsed<Flags>
     ensures { result ≡ flags_at fmt.now at }
 {

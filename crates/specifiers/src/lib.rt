@@ -1,8 +1,8 @@
 // What stands behind an element's index: flags, width, precision and letter.
 // Ported from format_string.rs of datafusion-spark 55.2.0 (Apache-2.0; see NOTICE): take_conversion_specifier.
 // Each step takes the format and a place, and answers its value and the place behind. A reader of both is no plainer: each contract would say the two of it.
-// Bytes are tested by place and length: with `get`, matches and a default, and one reader of a letter in either case, `%d` takes 1 % more instructions, and a
-// row with a width 2 to 3 %, with flags read by a range another 1 to 3 %.
+// Bytes are tested by place and length. `get`, patterns, a default and one reader of a letter in either case were measured together, none alone: with them a
+// row of fifteen `%1$d` takes 3.5 % more instructions, a row of `%c` 1.7 %, of `%d` 1.1 %.
 #![tactic(auto)]
 
 pub mod flags;

@@ -102,7 +102,7 @@ fn run_list(list: &[u8]) -> Tally
 }
 
 // Names the records of a list that differ, up to the first that breaks the layout: as many as are to be named. A loop of its own beside run_list: it stops
-// early and writes, of which no contract speaks, and run_list is proved to count.
+// early and prints, and run_list, which does not print, is proved to count.
 fn report_list(rt: &impl Print, name: &str, list: &[u8], named: usize) -> io::Result<()> {
     let mut t = Tally::default();
     while let Some(rec) = records::record_at(list, t.at) {
