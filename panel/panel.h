@@ -153,7 +153,7 @@ struct panel_changed panel_list_join(struct panel_list *list, uint32_t gate, con
                                      const uint8_t *row, size_t row_len);
 
 /* Takes out a gate; its place and its number are free again. Measures nothing: costs a pass over the numbers of the gates
-   present and two over 512 lengths; and for each piece at which no gate is longer, over that piece's lengths up to the first
+   present and one over 512 lengths; and for each piece at which no gate is longer, over that piece's lengths up to the first
    gate as long. That is at most one pass over the lengths of the gates present. */
 struct panel_changed panel_list_leave(struct panel_list *list, uint32_t gate);
 

@@ -3,7 +3,7 @@
 // leave works out the largest again without a row.
 #![tactic(auto)]
 
-ghost use Rattle.std.specs.Prelude.{◌≡◌, ℕ, ◌<◌, min, max, slice_index};
+ghost use Rattle.std.specs.Prelude.{◌≡◌, ◌≢◌, ◌≤◌, ℕ, ◌<◌, [], min, max, get_or, slice_index, take};
 ghost use Rattle.gates.specs.Gates.{joins, changed_of};
 ghost use Rattle.live.specs.Lists.{Represents};
 ghost use Rattle.live.specs.Steps.{present, place_of, length_in, column_largest, lowered};
@@ -15,6 +15,7 @@ use refusals::{MOST_GATES, MOST_PIECES, Refusal, Stop};
 // How many gates are present, their numbers, the largest length of each piece, and the length of each gate's pieces. No invariant: C lends any memory, and
 // each call says what it does where the memory represents a list.
 #[repr(C)]
+#[derive(Clone, Copy)]
 pub struct GateList {
     count: u32,
     numbers: [u32; MOST_GATES],
@@ -73,15 +74,48 @@ fn column_largest(rows: &[[u32; MOST_PIECES]], k: usize, top: u32) -> u32
     most
 }
 
-// Lowers the largest lengths where a gate leaves to those of the others.
-fn lower(longest: &mut [u32; MOST_PIECES], own: &[u32; MOST_PIECES], others: &[[u32; MOST_PIECES]])
-    ensures { (k : ℕ) → k < MOST_PIECES → slice_index longest.new k
-        ≡ lowered (slice_index own.now k) (slice_index longest.old k) (column_largest others.now k) }
+// Lowers the k-th largest length where a gate of the length own leaves the others.
+#[tactic(auto, unfolding(crate::specs::Steps::lowered))]
+fn lower(longest: &mut [u32; MOST_PIECES], others: &[[u32; MOST_PIECES]], k: usize, own: u32)
+    requires { k < MOST_PIECES }
+    ensures lowered { slice_index longest.new k ≡ lowered own (slice_index longest.old k) (column_largest others.now k) }
+    ensures others { (j : ℕ) → j ≢ k → slice_index longest.new j ≡ slice_index longest.old j }
+{
+    if own > 0 && own >= longest[k] {
+        longest[k] = column_largest(others, k, own);
+    }
+}
+
+// Puts another length in the place of a gate's k-th. Answers the one that stood there.
+fn replace_length(own: &mut [u32; MOST_PIECES], k: usize, len: u32) -> u32
+    requires { k < MOST_PIECES }
+    ensures was { result ≡ slice_index own.old k }
+    ensures stored { slice_index own.new k ≡ len }
+    ensures others { (j : ℕ) → j ≢ k → slice_index own.new j ≡ slice_index own.old j }
+{
+    let was = own[k];
+    own[k] = len;
+    was
+}
+
+// Takes out the lengths of the gate at a place: those of the last gate stand there then, and the largest lengths are lowered to those of the gates before it.
+// One pass does both. A swap of two rows is another pass, through a third row, and asks C's library for `memmove`.
+fn take_out(
+    longest: &mut [u32; MOST_PIECES],
+    lengths: &mut [[u32; MOST_PIECES]; MOST_GATES],
+    place: usize,
+    last: usize,
+)
+    requires { (place ≤ last) × (last < MOST_GATES) }
+    ensures kept { (i : ℕ) → i ≢ place → get_or lengths.new i [] ≡ get_or lengths.old i [] }
+    ensures moved { (k : ℕ) → k < MOST_PIECES → slice_index (get_or lengths.new place []) k ≡ slice_index (get_or lengths.old last []) k }
+    ensures lower { (k : ℕ) → k < MOST_PIECES → slice_index longest.new k
+        ≡ lowered (slice_index (get_or lengths.old place []) k) (slice_index longest.old k) (column_largest (take last lengths.new) k) }
 {
     for k in 0..MOST_PIECES {
-        if own[k] > 0 && own[k] >= longest[k] {
-            longest[k] = column_largest(others, k, own[k]);
-        }
+        let moved = lengths[last][k];
+        let own = replace_length(&mut lengths[place], k, moved);
+        lower(longest, &lengths[..last], k, own);
     }
 }
 
@@ -181,16 +215,13 @@ impl GateList {
             return Err(Refusal::GateAbsent.at(0));
         };
         let last = self.present() - 1;
-        // It changes places with the last gate, and then stands behind those that are counted.
-        self.numbers.swap(place, last);
-        self.lengths.swap(place, last);
+        take_out(&mut self.longest, &mut self.lengths, place, last);
+        self.numbers[place] = self.numbers[last];
         self.count = last as u32;
-        let (others, own) = self.lengths.split_at(last);
-        lower(&mut self.longest, &own[0], others);
         Ok(())
     }
 
-    // A gate leaves. Nothing is measured: it costs a pass over the numbers and two over 512 lengths; and of each piece at which no gate is longer, one
+    // A gate leaves. Nothing is measured: it costs a pass over the numbers and one over 512 lengths; and of each piece at which no gate is longer, one
     // over this piece's lengths up to the first as long, so in all at most one pass over the lengths of the gates present.
     pub fn leave(&mut self, gate: u32) -> Changed
         ensures { Leaves Represents gate self.old result self.new }
