@@ -1,5 +1,5 @@
 -- "Each number is returned with its cause and without it never": one theorem for checking, measuring and printing. Assumes nothing.
-use Rattle.std.specs.Prelude.{None, Some, Ok}
+use Rattle.std.specs.Prelude.{Option, None, Some, Ok}
 use mathlib.Core.Path.{◌≡◌, refl, sym, ap, subst, ◌∙◌}
 use mathlib.Core.Bool.{Bool, true, false, ◌&&◌}
 use mathlib.Core.List.{List}
@@ -28,13 +28,14 @@ use Rattle.rows.specs.Row.{kinds_of, is_row}
 use Rattle.outcomes.specs.Printed.{printed_text, measured, if_room, printed, joined, Outcome}
 use Rattle.outcomes.specs.PartTexts.{PartTexts}
 use Rattle.outcomes.proofs.PartTexts.{part_texts}
-use Rattle.causes.specs.Calls.{Call, checking, measuring, printing, format_in, kinds_in, OfRow, measured_row, printed_row, of_checked, of_outcome, refusal}
-use Rattle.causes.specs.Causes.{BadInput, Begins, AllPrinted, FirstUnprinted, here, earlier, NoRoom, Cause}
+use Rattle.causes.specs.Calls.{Call, checking, measuring, printing, format_in, kinds_in, OfRow, measured_row, printed_row, of_checked, of_outcome, refusal, returned}
+use Rattle.causes.specs.Causes.{BadInput, Begins, AllPrinted, FirstUnprinted, here, earlier, NoRoom, Cause, table_number, NumberedCause, numbered}
 use Rattle.causes.specs.Causes as K
 use Rattle.causes.proofs.Inputs.{kinds_good, bad_kinds, kinds_bad, checked-kinds, row_good, measured_bad, printed_bad}
 use Rattle.causes.proofs.Refused.{read-checked, accepted_measured, refuses, text_is}
 use Rattle.causes.proofs.Stops.{Told, fine, found, told}
 use Rattle.refusals.specs.declared.Refusal.{Refusal}
+use Rattle.refusals.specs.declared.Refusal.TheVariants as R
 use Rattle.refusals.specs.declared.Stop.{Stop}
 use Rattle.refusals.specs.Numbers.{refusal_number, stop}
 
@@ -158,6 +159,46 @@ cause_of call n p e = go (judged call)
 pub exactly : (call : Call) (n : Refusal) (p : ℕ)
     → (refusal call ≡ Some (stop n p) → Cause call n p) × (Cause call n p → refusal call ≡ Some (stop n p))
 exactly call n p = (cause_of call n p, refuses call)
+
+-- The numbers that calls answer are those of the table.
+pub table_numbers : (r : Refusal) → table_number r ≡ refusal_number r
+table_numbers R.LongFormat = refl
+table_numbers R.MalformedFormat = refl
+table_numbers R.BadKinds = refl
+table_numbers R.NoElementBefore = refl
+table_numbers R.NoIndex = refl
+table_numbers R.LargeNumber = refl
+table_numbers R.NoSuchArgument = refl
+table_numbers R.ZeroAfterMinus = refl
+table_numbers R.PlusAndSpace = refl
+table_numbers R.NoLetter = refl
+table_numbers R.NoTimeLetter = refl
+table_numbers R.UnfitLetter = refl
+table_numbers R.ManyPieces = refl
+table_numbers R.BrokenRow = refl
+table_numbers R.NotPrinted = refl
+table_numbers R.NoScalar = refl
+table_numbers R.NoRoom = refl
+table_numbers R.NoWholeSecond = refl
+table_numbers R.GatePresent = refl
+table_numbers R.GateAbsent = refl
+table_numbers R.ListFull = refl
+
+-- The theorem by the numbers themselves, as C reads them.
+pub number_exactly : (call : Call) (n p : ℕ)
+    → (returned (refusal call) ≡ Some (n, p) → NumberedCause call n p) × (NumberedCause call n p → returned (refusal call) ≡ Some (n, p))
+number_exactly call n p = (λ e. from (refusal call) refl e, to)
+  where
+    from : (o : Option Stop) → refusal call ≡ o → returned o ≡ Some (n, p) → NumberedCause call n p
+    from None e q = absurd (let z : ◌≡◌ {A = ℕ} 0 1 = cc in omega arith)
+    from (Some t) e q =
+        let pair : ◌≡◌ {A = ℕ × ℕ} (refusal_number t.refusal, t.place) (n, p) = cc in
+        subst (NumberedCause call n) (ap (λ (r : ℕ × ℕ). r.1) pair)
+        (numbered (table_numbers t.refusal ∙ ap (λ (r : ℕ × ℕ). r.0) pair) (cause_of call t.refusal t.place e))
+
+    to : NumberedCause call n p → returned (refusal call) ≡ Some (n, p)
+    to (numbered {why = r} e x) =
+        ap returned (refuses call x) ∙ ap (λ (k : ℕ). Some (k, p)) (sym (table_numbers r) ∙ e)
 
 -- A call is accepted exactly where no cause holds.
 pub accepted_exactly : (call : Call)

@@ -4,6 +4,7 @@ use Rattle.parsing.specs.Check.{checked}
 use Rattle.parsing.specs.declared.Checked.{Checked}
 use Rattle.rows.specs.Row.{kinds_of}
 use Rattle.outcomes.specs.Printed.{measured, printed, Outcome}
+use Rattle.refusals.specs.Numbers.{refusal_number}
 use Rattle.refusals.specs.declared.Stop.{Stop}
 
 -- Checking a format against kinds; measuring a row under a format; printing it into so many bytes and ends.
@@ -41,3 +42,8 @@ abbrev pub refusal : Call → Option Stop
 refusal (checking s ks) = of_checked (checked s ks)
 refusal (measuring s row) = of_outcome (measured s row)
 refusal (printing s row room slots) = of_outcome (printed s row room slots)
+
+-- The same as the number and the place that are returned.
+abbrev pub returned : Option Stop → Option (ℕ × ℕ)
+returned None = None
+returned (Some t) = Some (refusal_number t.refusal, t.place)

@@ -12,13 +12,13 @@ use Rattle.refusals.specs.Limits.{most_gates}
 use Rattle.writing.proofs.Choose.{by_test}
 use Rattle.outcomes.specs.Printed.{Outcome, measured}
 use Rattle.causes.specs.Calls.{measuring, of_outcome}
-use Rattle.causes.proofs.Causes.{exactly, number_in_table}
+use Rattle.causes.proofs.Causes.{exactly, number_in_table, table_numbers}
 use Rattle.refusals.specs.Numbers.{refusal_number, stop}
 use Rattle.refusals.specs.declared.Refusal.{Refusal}
 use Rattle.refusals.specs.declared.Stop.{Stop}
 use Rattle.refusals.proofs.Numbers.{number_tells, number_from_one}
 use Rattle.gates.specs.Gates.{Gate, is_present, Change, joins, leaves, done, refused, if_measured, answer}
-use Rattle.gates.specs.Causes.{ListCause}
+use Rattle.gates.specs.Causes.{ListCause, NumberedCause, numbered}
 use Rattle.gates.specs.Causes as K
 use Rattle.gates.specs.declared.Changed.{Changed}
 
@@ -76,6 +76,16 @@ module _ (s : List ℕ) (gates : List Gate) where
           let f = sym q ∙ e in
           subst (ListCause s gates c n) (ap (λ (a : Changed). a.place) f)
           (subst (λ (i : Refusal). ListCause s gates c i r) (number_tells m n (ap (λ (a : Changed). a.number) f)) x)
+
+  -- And by the number that C reads: any but 0 has its cause.
+  pub cause_of_number : (c : Change) (n p : ℕ) → answer s gates c ≡ record { number = n; place = p } → (n ≡ 0 → ⊥) → NumberedCause s gates c n p
+  cause_of_number c n p e h = go (judged c)
+    where
+      go : Judged s gates c (answer s gates c) → NumberedCause s gates c n p
+      go (accepted q) = absurd (h (ap (λ (a : Changed). a.number) (sym e ∙ q)))
+      go (caused {n = m} {p = r} x q) =
+          let f = sym q ∙ e in
+          numbered (table_numbers m ∙ ap (λ (a : Changed). a.number) f) (subst (ListCause s gates c m) (ap (λ (a : Changed). a.place) f) x)
 
   pub done_exactly : (c : Change)
       → (answer s gates c ≡ done → (n : Refusal) (p : ℕ) → ListCause s gates c n p → ⊥)

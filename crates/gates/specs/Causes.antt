@@ -4,7 +4,7 @@ use Rattle.refusals.specs.Limits.{most_gates}
 use Rattle.refusals.specs.declared.Refusal.{Refusal}
 use Rattle.refusals.specs.declared.Refusal.TheVariants.{GatePresent, GateAbsent, ListFull}
 use Rattle.causes.specs.Calls.{measuring}
-use Rattle.causes.specs.Causes.{Cause}
+use Rattle.causes.specs.Causes.{Cause, table_number}
 use Rattle.gates.specs.Gates.{Gate, is_present, Change, joins, leaves}
 
 -- Of a call on a list with these gates under the format s, with its refusal and place.
@@ -18,3 +18,7 @@ pub data ListCause (s : List ℕ) (gates : List Gate) : Change → Refusal → �
   -- "both before measuring's numbers"
   unmeasured : {n : ℕ} {row : List ℕ} {why : Refusal} {place : ℕ} → is_present n gates ≡ false → length gates < most_gates → Cause (measuring s row) why place
       → ListCause s gates (joins n row) why place
+
+-- The cause of a number and a place.
+pub data NumberedCause (s : List ℕ) (gates : List Gate) (c : Change) (n p : ℕ) : Type 0 where
+  numbered : {why : Refusal} → table_number why ≡ n → ListCause s gates c why p → NumberedCause s gates c n p
