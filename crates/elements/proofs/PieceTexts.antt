@@ -1,5 +1,6 @@
--- An element that is found is suited to its argument, and a text alone has the form of texts. Assumes nothing.
-use Rattle.std.specs.Prelude.{Option, Some}
+-- What a piece's text and size are, by the piece; that an element that is found is suited to its argument, and that a text alone has the form of texts.
+-- Assumes nothing.
+use Rattle.std.specs.Prelude.{Option, None, Some, Ok, Err, length}
 use Prim.Native.Nat.{ℕ, ◌≤◌}
 use mathlib.Core.Path.{◌≡◌, refl, sym, ap, subst, ◌∙◌}
 use mathlib.Core.Bool.{Bool, true, false, true≢false}
@@ -19,7 +20,26 @@ use Rattle.parsing.specs.Covers.{PieceIn}
 use Rattle.rows.proofs.Rows.{kinds-length, kind_byte}
 use Rattle.rows.proofs.Arguments.{argument_names}
 use Rattle.elements.proofs.Shown.{shown}
+use Rattle.elements.specs.Texts.{Shown, Text, Stops, text_of, stop_of}
+use Rattle.elements.specs.Sizes.{Size, size_of}
 use Rattle.elements.specs.Ready.{Suited}
+use Rattle.refusals.specs.declared.Refusal.{Refusal}
+
+-- The size by what stops a text and by its length.
+abbrev pub sized : Option Refusal → ℕ → Size
+sized None n = Ok n
+sized (Some refusal) n = Err refusal
+
+pub size_by : (t : Shown) → size_of t ≡ sized (stop_of t) (length (text_of t))
+size_by (Text t) = refl
+size_by (Stops refusal) = refl
+
+-- What nothing stops is its text.
+pub shown-text : (t : Shown) → stop_of t ≡ None → t ≡ Text (text_of t)
+shown-text (Text t) e = refl
+shown-text (Stops refusal) e =
+    let z : ◌≡◌ {A = ℕ} 0 1 = cc in
+    absurd (omega arith)
 
 -- An element that is found takes an argument of the row, and has the form of its kind.
 pub found_suited : (s row : List ℕ) (e : Element) → is_row row ≡ true → PieceIn s (kinds_of row) (AnElement e) → Suited row e

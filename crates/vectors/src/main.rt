@@ -172,7 +172,9 @@ const LISTS: [(&str, &str); 5] = [
     ("java.vec", "java"),
 ];
 
-fn run_lists(rt: &(impl Files + Print)) -> io::Result<Tally> {
+fn run_lists(rt: &(impl Files + Print)) -> io::Result<Tally>
+    ensures { IfOk result (λ t. t.passed + t.failed ≤ 1310720) }
+{
     let mut all = Tally::default();
     for (file, name) in LISTS {
         all = all.added(run_file(rt, file, name, 20)?);
