@@ -77,7 +77,7 @@ module _ (s : List ℕ) (gates : List Gate) where
           subst (ListCause s gates c n) (ap (λ (a : Changed). a.place) f)
           (subst (λ (i : Refusal). ListCause s gates c i r) (number_tells m n (ap (λ (a : Changed). a.number) f)) x)
 
-  -- And by the number that C reads: any but 0 has its cause.
+  -- And by the number that C reads: any but 0 has its cause, and a cause is answered with its number.
   pub cause_of_number : (c : Change) (n p : ℕ) → answer s gates c ≡ record { number = n; place = p } → (n ≡ 0 → ⊥) → NumberedCause s gates c n p
   cause_of_number c n p e h = go (judged c)
     where
@@ -86,6 +86,10 @@ module _ (s : List ℕ) (gates : List Gate) where
       go (caused {n = m} {p = r} x q) =
           let f = sym q ∙ e in
           numbered (table_numbers m ∙ ap (λ (a : Changed). a.number) f) (subst (ListCause s gates c m) (ap (λ (a : Changed). a.place) f) x)
+
+  pub number_refuses : {c : Change} {n p : ℕ} → NumberedCause s gates c n p → answer s gates c ≡ record { number = n; place = p }
+  number_refuses {c} {n} {p} (numbered {why = r} e x) =
+      refuses x ∙ ap {A = ℕ} {B = Changed} (λ k. record { number = k; place = p }) (sym (table_numbers r) ∙ e)
 
   pub done_exactly : (c : Change)
       → (answer s gates c ≡ done → (n : Refusal) (p : ℕ) → ListCause s gates c n p → ⊥)
