@@ -13,14 +13,14 @@ use gates::Changed;
 use refusals::{MOST_GATES, MOST_PIECES, Refusal, Stop};
 
 // How many gates are present, their numbers, the largest length of each piece, and the length of each gate's pieces. No invariant: C lends any memory, and
-// each call says what it does where the memory represents a list.
+// each call says what it does where the memory represents a list. So the fields are public: a caller may lend numbers that it stored.
 #[repr(C)]
 #[derive(Clone, Copy)]
 pub struct GateList {
-    count: u32,
-    numbers: [u32; MOST_GATES],
-    longest: [u32; MOST_PIECES],
-    lengths: [[u32; MOST_PIECES]; MOST_GATES],
+    pub count: u32,
+    pub numbers: [u32; MOST_GATES],
+    pub longest: [u32; MOST_PIECES],
+    pub lengths: [[u32; MOST_PIECES]; MOST_GATES],
 }
 
 // panel.h lends as many words.
