@@ -23,19 +23,20 @@ use Rattle.grammar.specs.Faults as F
 use Rattle.grammar.specs.Readings.{Whole, StopsReading, many, fault}
 use Rattle.grammar.proofs.Listed.{lists_length, lists_largest}
 use Rattle.grammar.proofs.Letters.{never}
+use Rattle.grammar.proofs.Numbers.{table_numbers}
 use Rattle.grammar.proofs.Readings.{Ends, made, stops, ends, read_whole}
 use Rattle.rows.specs.Row.{kinds_of, is_row}
 use Rattle.outcomes.specs.Printed.{printed_text, measured, if_room, printed, joined, Outcome}
 use Rattle.outcomes.specs.PartTexts.{PartTexts}
 use Rattle.outcomes.proofs.PartTexts.{part_texts}
-use Rattle.causes.specs.Calls.{Call, checking, measuring, printing, format_in, kinds_in, OfRow, measured_row, printed_row, of_checked, of_outcome, refusal, returned}
-use Rattle.causes.specs.Causes.{BadInput, Begins, AllPrinted, FirstUnprinted, here, earlier, NoRoom, Cause, table_number, NumberedCause, numbered}
+use Rattle.causes.specs.Calls.{Call, checking, measuring, printing, format_in, kinds_in, OfRow, measured_row, printed_row}
+use Rattle.causes.specs.Calls.{of_checked, of_outcome, refusal, returned}
+use Rattle.causes.specs.Causes.{BadInput, Begins, AllPrinted, FirstUnprinted, here, earlier, NoRoom, Cause, NumberedCause, numbered}
 use Rattle.causes.specs.Causes as K
 use Rattle.causes.proofs.Inputs.{kinds_good, bad_kinds, kinds_bad, checked-kinds, row_good, measured_bad, printed_bad}
 use Rattle.causes.proofs.Refused.{read-checked, accepted_measured, refuses, text_is}
 use Rattle.causes.proofs.Stops.{Told, fine, found, told}
 use Rattle.refusals.specs.declared.Refusal.{Refusal}
-use Rattle.refusals.specs.declared.Refusal.TheVariants as R
 use Rattle.refusals.specs.declared.Stop.{Stop}
 use Rattle.refusals.specs.Numbers.{refusal_number, stop}
 
@@ -159,30 +160,6 @@ cause_of call n p e = go (judged call)
 pub exactly : (call : Call) (n : Refusal) (p : ℕ)
     → (refusal call ≡ Some (stop n p) → Cause call n p) × (Cause call n p → refusal call ≡ Some (stop n p))
 exactly call n p = (cause_of call n p, refuses call)
-
--- The numbers that calls answer are those of the table.
-pub table_numbers : (r : Refusal) → table_number r ≡ refusal_number r
-table_numbers R.LongFormat = refl
-table_numbers R.MalformedFormat = refl
-table_numbers R.BadKinds = refl
-table_numbers R.NoElementBefore = refl
-table_numbers R.NoIndex = refl
-table_numbers R.LargeNumber = refl
-table_numbers R.NoSuchArgument = refl
-table_numbers R.ZeroAfterMinus = refl
-table_numbers R.PlusAndSpace = refl
-table_numbers R.NoLetter = refl
-table_numbers R.NoTimeLetter = refl
-table_numbers R.UnfitLetter = refl
-table_numbers R.ManyPieces = refl
-table_numbers R.BrokenRow = refl
-table_numbers R.NotPrinted = refl
-table_numbers R.NoScalar = refl
-table_numbers R.NoRoom = refl
-table_numbers R.NoWholeSecond = refl
-table_numbers R.GatePresent = refl
-table_numbers R.GateAbsent = refl
-table_numbers R.ListFull = refl
 
 -- The theorem by the numbers themselves, as C reads them.
 pub number_exactly : (call : Call) (n p : ℕ)

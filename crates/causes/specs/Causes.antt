@@ -8,6 +8,7 @@ use Rattle.grammar.specs.Runs.{begins}
 use Rattle.grammar.specs.Parts.{Written, Part, text, percent, newline, element, bytes_before}
 use Rattle.grammar.specs.Elements.{kinds, in_table}
 use Rattle.grammar.specs.Readings.{Whole, StopsReading}
+use Rattle.grammar.specs.Numbers.{table_number}
 use Rattle.kinds.specs.Kinds.{unmarked}
 use Rattle.rows.specs.Entry.{integer_in}
 use Rattle.rows.specs.Row.{kind_byte_of, entry_at, is_row}
@@ -107,30 +108,6 @@ pub data Cause : Call → Refusal → ℕ → Type 0 where
   no_room : {s row : List ℕ} {room slots : ℕ} {parts : List Part} {ts : List (List ℕ)} → Begins (printing s row room slots)
       → Whole s (kinds_in (printing s row room slots)) parts → AllPrinted row parts → PartTexts row parts ts
       → NoRoom (length (joined ts)) room slots (length parts) → Cause (printing s row room slots) R.NoRoom 0
-
--- The table's column "No.", written out once more from 01, and from 02 for E1 (18) and E4 (19 to 21): not shared with what a call answers.
-abbrev pub table_number : Refusal → ℕ
-table_number R.LongFormat = 1
-table_number R.MalformedFormat = 2
-table_number R.BadKinds = 3
-table_number R.BrokenRow = 14
-table_number R.NoElementBefore = 4
-table_number R.NoIndex = 5
-table_number R.LargeNumber = 6
-table_number R.NoSuchArgument = 7
-table_number R.ZeroAfterMinus = 8
-table_number R.PlusAndSpace = 9
-table_number R.NoLetter = 10
-table_number R.NoTimeLetter = 11
-table_number R.UnfitLetter = 12
-table_number R.ManyPieces = 13
-table_number R.NotPrinted = 15
-table_number R.NoScalar = 16
-table_number R.NoRoom = 17
-table_number R.NoWholeSecond = 18
-table_number R.GatePresent = 19
-table_number R.GateAbsent = 20
-table_number R.ListFull = 21
 
 -- The cause of a number and a place.
 pub data NumberedCause (call : Call) (n p : ℕ) : Type 0 where

@@ -12,7 +12,8 @@ use Rattle.refusals.specs.Limits.{most_gates}
 use Rattle.writing.proofs.Choose.{by_test}
 use Rattle.outcomes.specs.Printed.{Outcome, measured}
 use Rattle.causes.specs.Calls.{measuring, of_outcome}
-use Rattle.causes.proofs.Causes.{exactly, number_in_table, table_numbers}
+use Rattle.grammar.proofs.Numbers.{table_numbers}
+use Rattle.causes.proofs.Causes.{exactly, number_in_table}
 use Rattle.refusals.specs.Numbers.{refusal_number, stop}
 use Rattle.refusals.specs.declared.Refusal.{Refusal}
 use Rattle.refusals.specs.declared.Stop.{Stop}

@@ -3,8 +3,9 @@ use Rattle.std.specs.Prelude.{ℕ, ◌≤◌, ◌<◌, ◌≡◌, true, false, L
 use Rattle.refusals.specs.Limits.{most_gates}
 use Rattle.refusals.specs.declared.Refusal.{Refusal}
 use Rattle.refusals.specs.declared.Refusal.TheVariants.{GatePresent, GateAbsent, ListFull}
+use Rattle.grammar.specs.Numbers.{table_number}
 use Rattle.causes.specs.Calls.{measuring}
-use Rattle.causes.specs.Causes.{Cause, table_number}
+use Rattle.causes.specs.Causes.{Cause}
 use Rattle.gates.specs.Gates.{Gate, is_present, Change, joins, leaves}
 
 -- Of a call on a list with these gates under the format s, with its refusal and place.

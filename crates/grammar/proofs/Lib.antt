@@ -11,3 +11,4 @@ pub mod Readings
 pub mod Listed
 pub mod Arguments
 pub mod Marks
+pub mod Numbers

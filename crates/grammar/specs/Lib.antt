@@ -4,3 +4,4 @@ pub mod Elements
 pub mod Faults
 pub mod Pieces
 pub mod Readings
+pub mod Numbers

@@ -70,7 +70,7 @@ column_is s k (row ∷ rows) (g ∷ gates) e h =
 lowered_is : (own top rest : ℕ) → top ≡ max own rest → lowered own top rest ≡ rest
 lowered_is own top rest e = grind (arith, nat_tests)
 
--- That the last gate has the place of one that left, and the largest lengths were lowered to those of the gates before it.
+-- That the last gate has the place of one that left, and the largest lengths were lowered to those of the gates that stay, the rows before the last.
 pub record Left (m : GateList) (place last : ℕ) (m' : GateList) : Type 0 where
   pub less : m'.count ≡ last
   pub numbers : m'.numbers ≡ set m.numbers place (number_at m last)

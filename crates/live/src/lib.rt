@@ -13,7 +13,7 @@ use gates::Changed;
 use refusals::{MOST_GATES, MOST_PIECES, Refusal, Stop};
 
 // How many gates are present, their numbers, the largest length of each piece, and the length of each gate's pieces. No invariant: C lends any memory, and
-// each call says what it does where the memory represents a list. So the fields are public: a caller may lend numbers that it stored.
+// each call says what it does where the memory represents a list. So the fields are public: a caller may make one of any numbers.
 #[repr(C)]
 #[derive(Clone, Copy)]
 pub struct GateList {
@@ -98,8 +98,8 @@ fn replace_length(own: &mut [u32; MOST_PIECES], k: usize, len: u32) -> u32
     was
 }
 
-// Takes out the lengths of the gate at a place: those of the last gate stand there then, and the largest lengths are lowered to those of the gates before it.
-// One pass does both. A swap of two rows is another pass, through a third row, and asks C's library for `memmove`.
+// Takes out the lengths of the gate at a place: those of the last gate stand there then, and the largest lengths are lowered to those of the gates that stay,
+// which are the rows before the last. One pass does both. A swap of two rows is another pass, through a third row, and asks C's library for `memmove`.
 fn take_out(
     longest: &mut [u32; MOST_PIECES],
     lengths: &mut [[u32; MOST_PIECES]; MOST_GATES],
